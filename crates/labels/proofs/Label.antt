@@ -1,0 +1,271 @@
+-- The label of document 01 and its variants P1 to P9, as one table that is computed from the job's bytes: what each changes, and what is
+-- seen of its layout, in the rows and in the answer's bytes.
+use Prim.Native.Nat.{ℕ, suc}
+use mathlib.Core.Path.{_≡_, refl}
+use mathlib.Core.Bool.{Bool, true, false, _&&_}
+use mathlib.Core.List.{List, [], _∷_, _++_, map}
+use lib.ListN.{length}
+use lib.Dec.{T, eqb}
+use lib.IntN.{pos, negℤ}
+use lib.Ieee.{Float, binary32, ofInt, toBits}
+use Rattle.labels.specs.Outcome.{Outcome, refused, given, andThen}
+use Rattle.labels.specs.Lists.{all}
+use Rattle.labels.specs.Check.{checked}
+use Rattle.labels.specs.Script.Tag.{tag}
+use Rattle.labels.specs.Decoration.{Run}
+use Rattle.labels.specs.Answer.{ChunkRow, ClusterRow, SpanRow, readAnswer}
+use Rattle.labels.specs.Layout.{LaidChunk, layoutJob, layoutOf, rowsOf}
+use Rattle.labels.specs.Compute.{computed}
+use Rattle.labels.proofs.Jobs.{Variant, plainVariant, labelJob, built}
+
+-- ---- what is seen of a layout: the lines that platelist prints, each cluster's with its scale, nudge, ascent and shift y besides
+
+bits : Float → ℕ
+bits x = toBits binary32 x
+
+clusterLines : ℕ → List ClusterRow → List (List ℕ)
+unfolding bits
+clusterLines k [] = []
+clusterLines k (c ∷ cs) =
+    (k ∷ c .index ∷ c .flags ∷ bits (c .width) ∷ bits (c .advance) ∷ bits (c .x) ∷ bits (c .scale) ∷ bits (c .nudge) ∷ bits (c .ascent) ∷ bits (c .y) ∷ [])
+    ∷ clusterLines (suc k) cs
+
+runLines : ℕ → List Run → List (List ℕ)
+unfolding bits
+runLines k [] = []
+runLines k (r ∷ rs) = (k ∷ r .first ∷ bits (r .width) ∷ []) ∷ runLines k rs
+
+spanLines : List SpanRow → List (List ℕ)
+unfolding bits runLines
+spanLines [] = []
+spanLines (s ∷ ss) = (s .index ∷ bits (s .baseline) ∷ bits (s .thickness) ∷ bits (s .under) ∷ []) ∷ (runLines (s .index) (s .runs) ++ spanLines ss)
+
+lines : ℕ → List ChunkRow → List (List ℕ)
+unfolding bits clusterLines spanLines
+lines k [] = []
+lines k (c ∷ cs) =
+    (k ∷ length (c .clusters) ∷ bits (c .penX) ∷ bits (c .penY) ∷ []) ∷ (clusterLines 0 (c .clusters) ++ (spanLines (c .spans) ++ lines (suc k) cs))
+
+-- the extents, and the lines, of the rows laid out
+laid : List ℕ → Outcome (List ℕ × List (List ℕ))
+unfolding bits lines
+laid bs =
+    andThen (checked bs) (λ j. andThen (layoutJob j) (λ cs. given (map (λ (c : LaidChunk). bits (c .extent)) cs, lines 0 (rowsOf cs))))
+
+-- the lines of the rows that the answer's bytes hold
+written : List ℕ → Outcome (List (List ℕ))
+unfolding lines
+written bs = andThen (layoutOf bs 65536) (λ answer. given (lines 0 (readAnswer answer)))
+
+-- ---- the table
+
+pub record Case : Type 0 where
+  pub variant : Variant
+  pub extent : ℕ
+  pub expected : List (List ℕ)
+
+sameList : List ℕ → List ℕ → Bool
+sameList [] [] = true
+sameList [] (y ∷ ys) = false
+sameList (x ∷ xs) [] = false
+sameList (x ∷ xs) (y ∷ ys) = eqb x y && sameList xs ys
+
+sameLines : List (List ℕ) → List (List ℕ) → Bool
+unfolding sameList
+sameLines [] [] = true
+sameLines [] (y ∷ ys) = false
+sameLines (x ∷ xs) [] = false
+sameLines (x ∷ xs) (y ∷ ys) = sameList x y && sameLines xs ys
+
+laidRight : Case → Outcome (List ℕ × List (List ℕ)) → Bool
+unfolding sameList sameLines
+laidRight c (refused n) = false
+laidRight c (given l) = sameList (l .0) (c .extent ∷ []) && sameLines (l .1) (c .expected)
+
+writtenRight : Case → Outcome (List (List ℕ)) → Bool
+unfolding sameLines
+writtenRight c (refused n) = false
+writtenRight c (given ls) = sameLines ls (c .expected)
+
+right : Case → Bool
+unfolding laid written laidRight writtenRight
+right c = let bs = labelJob (c .variant) in laidRight c (laid bs) && writtenRight c (written bs)
+
+-- the pattern of a whole number, and of one below zero
+whole : ℕ → ℕ
+whole n = toBits binary32 (ofInt binary32 (pos n))
+
+below : ℕ → ℕ
+below n = toBits binary32 (ofInt binary32 (negℤ (pos n)))
+
+-- minus zero
+-0 : ℕ
+-0 = 0x80000000
+
+-- index, clusters, pen
+-- index, byte index, flags, width, advance, shift x; scale, nudge, ascent, shift y
+-- index, baseline shift, thickness, under offset
+-- span, first cluster, width
+
+-- the label itself
+P1 : Case
+unfolding whole below
+P1 =
+    record {
+      variant = plainVariant (tag "Latn") (whole 1);
+      extent = whole 28;
+      expected =
+          (0 ∷ 3 ∷ whole 100 ∷ whole 50 ∷ [])
+          ∷ (0 ∷ 0 ∷ 0 ∷ whole 10 ∷ whole 11 ∷ below 28 ∷ 0 ∷ 0 ∷ whole 12 ∷ 0 ∷ [])
+          ∷ (1 ∷ 1 ∷ 0 ∷ whole 4 ∷ whole 7 ∷ below 17 ∷ 0 ∷ 0 ∷ whole 12 ∷ 0 ∷ [])
+          ∷ (2 ∷ 2 ∷ 0 ∷ whole 10 ∷ whole 10 ∷ below 10 ∷ 0 ∷ 0 ∷ whole 12 ∷ 0 ∷ [])
+          ∷ (0 ∷ 0 ∷ whole 1 ∷ whole 2 ∷ [])
+          ∷ (0 ∷ 0 ∷ whole 28 ∷ [])
+          ∷ [];
+    }
+
+-- text length 54, Spacing: advances 25, 19, 25, extent 54
+P2 : Case
+unfolding whole below
+P2 =
+    record {
+      variant = record { mode = 0; upright = 0; script = tag "Latn"; letter = whole 1; fixed = 1; target = whole 54; adjust = 0; alignment = 0; shifts = []; dx = [] };
+      extent = whole 54;
+      expected =
+          (0 ∷ 3 ∷ whole 115 ∷ whole 50 ∷ [])
+          ∷ (0 ∷ 0 ∷ 0 ∷ whole 10 ∷ whole 25 ∷ below 54 ∷ 0 ∷ 0 ∷ whole 12 ∷ 0 ∷ [])
+          ∷ (1 ∷ 1 ∷ 0 ∷ whole 4 ∷ whole 19 ∷ below 29 ∷ 0 ∷ 0 ∷ whole 12 ∷ 0 ∷ [])
+          ∷ (2 ∷ 2 ∷ 0 ∷ whole 10 ∷ whole 25 ∷ below 10 ∷ 0 ∷ 0 ∷ whole 12 ∷ 0 ∷ [])
+          ∷ (0 ∷ 0 ∷ whole 1 ∷ whole 2 ∷ [])
+          ∷ (0 ∷ 0 ∷ whole 69 ∷ [])
+          ∷ [];
+    }
+
+-- text length 48, SpacingAndGlyphs: scale 2, advances 11, 7, 10
+P3 : Case
+unfolding whole below
+P3 =
+    record {
+      variant = record { mode = 0; upright = 0; script = tag "Latn"; letter = whole 1; fixed = 1; target = whole 48; adjust = 1; alignment = 0; shifts = []; dx = [] };
+      extent = whole 28;
+      expected =
+          (0 ∷ 3 ∷ whole 100 ∷ whole 50 ∷ [])
+          ∷ (0 ∷ 0 ∷ 8 ∷ whole 10 ∷ whole 11 ∷ below 28 ∷ whole 2 ∷ 0 ∷ whole 12 ∷ 0 ∷ [])
+          ∷ (1 ∷ 1 ∷ 8 ∷ whole 4 ∷ whole 7 ∷ below 17 ∷ whole 2 ∷ 0 ∷ whole 12 ∷ 0 ∷ [])
+          ∷ (2 ∷ 2 ∷ 8 ∷ whole 10 ∷ whole 10 ∷ below 10 ∷ whole 2 ∷ 0 ∷ whole 12 ∷ 0 ∷ [])
+          ∷ (0 ∷ 0 ∷ whole 1 ∷ whole 2 ∷ [])
+          ∷ (0 ∷ 0 ∷ whole 28 ∷ [])
+          ∷ [];
+    }
+
+-- dx list 0, 3: runs 11 and 17, only the second cluster marked
+P4 : Case
+unfolding whole below
+P4 =
+    record {
+      variant = record { mode = 0; upright = 0; script = tag "Latn"; letter = whole 1; fixed = 0; target = 0; adjust = 0; alignment = 0; shifts = []; dx = 0 ∷ whole 3 ∷ [] };
+      extent = whole 31;
+      expected =
+          (0 ∷ 3 ∷ whole 100 ∷ whole 50 ∷ [])
+          ∷ (0 ∷ 0 ∷ 0 ∷ whole 10 ∷ whole 11 ∷ below 31 ∷ 0 ∷ 0 ∷ whole 12 ∷ 0 ∷ [])
+          ∷ (1 ∷ 1 ∷ 1 ∷ whole 4 ∷ whole 7 ∷ below 17 ∷ 0 ∷ 0 ∷ whole 12 ∷ 0 ∷ [])
+          ∷ (2 ∷ 2 ∷ 0 ∷ whole 10 ∷ whole 10 ∷ below 10 ∷ 0 ∷ 0 ∷ whole 12 ∷ 0 ∷ [])
+          ∷ (0 ∷ 0 ∷ whole 1 ∷ whole 2 ∷ [])
+          ∷ (0 ∷ 0 ∷ whole 11 ∷ [])
+          ∷ (0 ∷ 1 ∷ whole 17 ∷ [])
+          ∷ [];
+    }
+
+-- letter −11: advances 0, 2, 10
+P5 : Case
+unfolding whole below
+P5 =
+    record {
+      variant = plainVariant (tag "Latn") (below 11);
+      extent = whole 12;
+      expected =
+          (0 ∷ 3 ∷ whole 100 ∷ whole 50 ∷ [])
+          ∷ (0 ∷ 0 ∷ 32 ∷ 0 ∷ 0 ∷ below 12 ∷ 0 ∷ 0 ∷ whole 12 ∷ 0 ∷ [])
+          ∷ (1 ∷ 1 ∷ 32 ∷ 0 ∷ whole 2 ∷ below 12 ∷ 0 ∷ 0 ∷ whole 12 ∷ 0 ∷ [])
+          ∷ (2 ∷ 2 ∷ 0 ∷ whole 10 ∷ whole 10 ∷ below 10 ∷ 0 ∷ 0 ∷ whole 12 ∷ 0 ∷ [])
+          ∷ (0 ∷ 0 ∷ whole 1 ∷ whole 2 ∷ [])
+          ∷ (0 ∷ 0 ∷ whole 12 ∷ [])
+          ∷ [];
+    }
+
+-- alignment middle: baseline 4
+P6 : Case
+unfolding whole below
+P6 =
+    record {
+      variant = record { mode = 0; upright = 0; script = tag "Latn"; letter = whole 1; fixed = 0; target = 0; adjust = 0; alignment = 4; shifts = []; dx = [] };
+      extent = whole 28;
+      expected =
+          (0 ∷ 3 ∷ whole 100 ∷ whole 50 ∷ [])
+          ∷ (0 ∷ 0 ∷ 0 ∷ whole 10 ∷ whole 11 ∷ below 28 ∷ 0 ∷ 0 ∷ whole 12 ∷ 0 ∷ [])
+          ∷ (1 ∷ 1 ∷ 0 ∷ whole 4 ∷ whole 7 ∷ below 17 ∷ 0 ∷ 0 ∷ whole 12 ∷ 0 ∷ [])
+          ∷ (2 ∷ 2 ∷ 0 ∷ whole 10 ∷ whole 10 ∷ below 10 ∷ 0 ∷ 0 ∷ whole 12 ∷ 0 ∷ [])
+          ∷ (0 ∷ whole 4 ∷ whole 1 ∷ whole 2 ∷ [])
+          ∷ (0 ∷ 0 ∷ whole 28 ∷ [])
+          ∷ [];
+    }
+
+-- superscript: −5
+P7 : Case
+unfolding whole below
+P7 =
+    record {
+      variant = record { mode = 0; upright = 0; script = tag "Latn"; letter = whole 1; fixed = 0; target = 0; adjust = 0; alignment = 0; shifts = 2 ∷ []; dx = [] };
+      extent = whole 28;
+      expected =
+          (0 ∷ 3 ∷ whole 100 ∷ whole 50 ∷ [])
+          ∷ (0 ∷ 0 ∷ 0 ∷ whole 10 ∷ whole 11 ∷ below 28 ∷ 0 ∷ 0 ∷ whole 12 ∷ 0 ∷ [])
+          ∷ (1 ∷ 1 ∷ 0 ∷ whole 4 ∷ whole 7 ∷ below 17 ∷ 0 ∷ 0 ∷ whole 12 ∷ 0 ∷ [])
+          ∷ (2 ∷ 2 ∷ 0 ∷ whole 10 ∷ whole 10 ∷ below 10 ∷ 0 ∷ 0 ∷ whole 12 ∷ 0 ∷ [])
+          ∷ (0 ∷ below 5 ∷ whole 1 ∷ whole 2 ∷ [])
+          ∷ (0 ∷ 0 ∷ whole 28 ∷ [])
+          ∷ [];
+    }
+
+-- top to bottom, upright A: nudge 4, ascent 5. Shift y is the accumulated dx negated, and nothing is added to the negated baseline shift:
+-- both are −0. The run begins with the upright cluster and is 28 wide
+P8 : Case
+unfolding whole below -0
+P8 =
+    record {
+      variant = record { mode = 1; upright = 1; script = tag "Latn"; letter = whole 1; fixed = 0; target = 0; adjust = 0; alignment = 0; shifts = []; dx = [] };
+      extent = whole 28;
+      expected =
+          (0 ∷ 3 ∷ whole 100 ∷ whole 50 ∷ [])
+          ∷ (0 ∷ 0 ∷ 2 ∷ whole 10 ∷ whole 11 ∷ below 28 ∷ 0 ∷ whole 4 ∷ whole 5 ∷ -0 ∷ [])
+          ∷ (1 ∷ 1 ∷ 4 ∷ whole 4 ∷ whole 7 ∷ below 17 ∷ 0 ∷ whole 4 ∷ whole 12 ∷ -0 ∷ [])
+          ∷ (2 ∷ 2 ∷ 4 ∷ whole 10 ∷ whole 10 ∷ below 10 ∷ 0 ∷ whole 4 ∷ whole 12 ∷ -0 ∷ [])
+          ∷ (0 ∷ -0 ∷ whole 1 ∷ whole 8 ∷ [])
+          ∷ (0 ∷ 0 ∷ whole 28 ∷ [])
+          ∷ [];
+    }
+
+-- tag Arab: advances 10, 6, 10
+P9 : Case
+unfolding whole below
+P9 =
+    record {
+      variant = plainVariant (tag "Arab") (whole 1);
+      extent = whole 26;
+      expected =
+          (0 ∷ 3 ∷ whole 100 ∷ whole 50 ∷ [])
+          ∷ (0 ∷ 0 ∷ 0 ∷ whole 10 ∷ whole 10 ∷ below 26 ∷ 0 ∷ 0 ∷ whole 12 ∷ 0 ∷ [])
+          ∷ (1 ∷ 1 ∷ 0 ∷ whole 4 ∷ whole 6 ∷ below 16 ∷ 0 ∷ 0 ∷ whole 12 ∷ 0 ∷ [])
+          ∷ (2 ∷ 2 ∷ 0 ∷ whole 10 ∷ whole 10 ∷ below 10 ∷ 0 ∷ 0 ∷ whole 12 ∷ 0 ∷ [])
+          ∷ (0 ∷ 0 ∷ whole 1 ∷ whole 2 ∷ [])
+          ∷ (0 ∷ 0 ∷ whole 26 ∷ [])
+          ∷ [];
+    }
+
+table : List Case
+table = P1 ∷ P2 ∷ P3 ∷ P4 ∷ P5 ∷ P6 ∷ P7 ∷ P8 ∷ P9 ∷ []
+
+-- every row of the table holds
+all-right : T (all right table)
+unfolding computed built right table P1 P2 P3 P4 P5 P6 P7 P8 P9
+all-right = tt

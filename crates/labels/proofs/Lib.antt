@@ -1,0 +1,6 @@
+pub mod Loops
+pub mod Numbers
+pub mod Records
+pub mod AnswerLength
+pub mod Jobs
+pub mod Label

@@ -1,0 +1,164 @@
+-- The exact layout of document 01: steps 1 and 2's choices, and steps 4 to 7 on fractions. It is fed the job alone. And demand 3. Definitions only.
+use Prim.Native.Nat.{ℕ, _+_, _/_, _%_, _^_, _<_}
+use mathlib.Core.Path.{_≡_}
+use mathlib.Core.Bool.{Bool, true, false, cond, _&&_}
+use mathlib.Core.List.{List, [], _∷_, map, foldl}
+use lib.ListN.{length, getD}
+use lib.Dec.{T, eqb}
+use lib.IntN.{pos}
+use lib.Ieee.{Float}
+use lib.Ieee.Scale.{finite as isFinite}
+use Rattle.rounding.specs.Fraction.{Frac, 0ᵠ, _+ᵠ_, _-ᵠ_, _·ᵠ_, _/ᵠ_, negᵠ, absᵠ, ltᵠ, leᵠ, valueOf}
+use Rattle.labels.specs.Outcome.{Outcome, refused, given}
+use Rattle.labels.specs.Lists.{atOr}
+use Rattle.labels.specs.Single.{+0}
+use Rattle.labels.specs.Job.{Job, Chunk, Span, Glyph, Font, spansOf, spanAt, hasLength, adjustSpacing}
+use Rattle.labels.specs.Utf8.{characters}
+use Rattle.labels.specs.Merge.{mergeGlyphs}
+use Rattle.labels.specs.Group.{Group, groups}
+use Rattle.labels.specs.Kind.{Kind, glyphAdvance, sumAdvance, maxAdvance}
+use Rattle.labels.specs.Spacing.{applyLetterSpacing, applyWordSpacing}
+use Rattle.labels.specs.LengthAdjust.{adjustSpacingOf}
+use Rattle.labels.specs.Position.{characterNumber, resolveRelativeShifts, turnShifts, positioned}
+use Rattle.labels.specs.Cluster.{Cluster}
+use Rattle.labels.specs.Answer.{ClusterRow, ChunkRow, readAnswer}
+use Rattle.labels.specs.Layout.{collapsedClusters}
+
+-- ---- the exact layout
+
+-- collapsed: steps 2 and 4, rounded as in demand 2, collapse the cluster
+pub record ExactCluster : Type 0 where
+  pub group : Group
+  pub collapsed : Bool
+  pub width : Frac
+  pub advance : Frac
+  pub spacing : Frac
+  pub x : Frac
+  pub y : Frac
+
+-- every operation and comparison is done on fractions; the choice of step 4 is the rounded one
+abbrev pub exact : Kind
+exact =
+    record {
+      Num = Frac;
+      ofFloat = valueOf;
+      nought = 0ᵠ;
+      times = _·ᵠ_;
+      _⊕_ = _+ᵠ_;
+      _⊖_ = _-ᵠ_;
+      _⊘_ = _/ᵠ_;
+      halved = λ q. q /ᵠ 2;
+      minus = negᵠ;
+      below = ltᵠ;
+      Cluster = ExactCluster;
+      index = λ c. c .group .first .index;
+      tag = λ c. c .group .first .tag;
+      span = λ c. c .group .span;
+      width = λ c. c .width;
+      advance = λ c. c .advance;
+      spacing = λ c. c .spacing;
+      x = λ c. c .x;
+      y = λ c. c .y;
+      withAdvance = λ a c. record { group = c .group; collapsed = c .collapsed; width = c .width; advance = a; spacing = c .spacing; x = c .x; y = c .y };
+      withSpacing = λ a l c. record { group = c .group; collapsed = c .collapsed; width = c .width; advance = a; spacing = l; x = c .x; y = c .y };
+      withShift = λ x y c. record { group = c .group; collapsed = c .collapsed; width = c .width; advance = c .advance; spacing = c .spacing; x = x; y = y };
+      collapses = λ c. c .collapsed;
+      collapse = λ c. record { group = c .group; collapsed = c .collapsed; width = 0ᵠ; advance = 0ᵠ; spacing = c .spacing; x = c .x; y = c .y };
+    }
+
+-- step 2: a group's cluster, and whether the rounded steps collapse it
+unfoldable pub exactCluster : List Font → List Span → Group → Bool → ExactCluster
+exactCluster fonts spans g collapsed =
+    let size = spanAt spans (g .span) .size in
+    record {
+      group = g;
+      collapsed = collapsed;
+      width = maxAdvance exact fonts size (g .glyphs);
+      advance = sumAdvance exact fonts size (g .glyphs);
+      spacing = 0ᵠ;
+      x = 0ᵠ;
+      y = 0ᵠ;
+    }
+
+-- a cluster for each group, beside the one that the rounded steps 2 to 4 make of it
+unfoldable pub exactClusters : List Font → List Span → List Group → List Cluster → List ExactCluster
+exactClusters fonts spans [] cs = []
+exactClusters fonts spans (g ∷ gs) [] = exactCluster fonts spans g false ∷ exactClusters fonts spans gs []
+exactClusters fonts spans (g ∷ gs) (c ∷ cs) = exactCluster fonts spans g (c .collapsed) ∷ exactClusters fonts spans gs cs
+
+unfoldable pub formedExactly : Job → Chunk → List Glyph → List ExactCluster
+formedExactly job c gs = exactClusters (job .fonts) (spansOf c) (groups (spansOf c) gs) (collapsedClusters job c gs)
+
+-- step 6: of the two ways of adjusting only Spacing changes an advance
+unfoldable pub adjustSpanExactly : List ExactCluster → Span → List ExactCluster
+adjustSpanExactly cs s = cond (hasLength s && eqb (s .adjust) adjustSpacing) (adjustSpacingOf exact s cs) cs
+
+-- steps 4 to 7; `offset` characters come before the chunk
+unfoldable pub layoutExactly : Job → ℕ → Chunk → List ExactCluster → List ExactCluster
+layoutExactly job offset c cs =
+    let spaced = applyWordSpacing exact (c .text) (spansOf c) (applyLetterSpacing exact (spansOf c) cs) in
+    let adjusted = foldl adjustSpanExactly spaced (spansOf c) in
+    positioned exact (c .anchor) (turnShifts exact (job .mode) (resolveRelativeShifts exact job (c .text) offset adjusted)) .clusters
+
+-- ---- the distance allowed
+
+-- g: the glyphs that stand in clusters, collapsed or not
+unfoldable pub glyphTotal : List ExactCluster → ℕ
+glyphTotal cs = foldl (λ (n : ℕ) (c : ExactCluster). n + length (c .group .glyphs)) 0 cs
+
+abbrev pub sizeOf : Float → Frac
+sizeOf x = absᵠ (valueOf x)
+
+-- a cluster's part of T: its glyphs' exact advances, its span's letter and word spacing, and the dx and dy of its character
+unfoldable pub clusterSizes : Job → ℕ → Chunk → Group → Frac
+clusterSizes job offset c g =
+    let s = spanAt (spansOf c) (g .span) in
+    let cp = characterNumber (c .text) offset (g .first .index) in
+    foldl (λ (t : Frac) (a : Glyph). t +ᵠ absᵠ (glyphAdvance exact (job .fonts) (s .size) a)) 0ᵠ (g .glyphs)
+    +ᵠ sizeOf (s .letter) +ᵠ sizeOf (s .word) +ᵠ sizeOf (getD (job .dx) cp +0) +ᵠ sizeOf (getD (job .dy) cp +0)
+
+-- T: the clusters' parts, and each span's text length
+unfoldable pub sizeTotal : Job → ℕ → Chunk → List ExactCluster → Frac
+sizeTotal job offset c cs =
+    foldl (λ (t : Frac) (s : Span). t +ᵠ sizeOf (s .length))
+    (foldl (λ (t : Frac) (q : ExactCluster). t +ᵠ clusterSizes job offset c (q .group)) 0ᵠ cs) (spansOf c)
+
+-- (g + 3) × T ÷ 2 ^ k
+unfoldable pub allowed : ℕ → Job → ℕ → Chunk → List ExactCluster → Frac
+allowed k job offset c cs = pos (glyphTotal cs + 3) ·ᵠ sizeTotal job offset c cs /ᵠ (2 ^ k)
+
+-- ---- demand 3
+
+-- as many of the one as of the other, and R of each two that stand at the same place
+pub data AllPairs {A B : Type 0} (R : A → B → Type 0) : List A → List B → Type 0 where
+  none : AllPairs R [] []
+  more : {a : A} {b : B} {xs : List A} {ys : List B} → R a b → AllPairs R xs ys → AllPairs R (a ∷ xs) (b ∷ ys)
+
+-- a cluster of an answer beside the exact one: the same byte index; marked as collapsed exactly where the rounded steps collapse it;
+-- shift x finite, and at most b from the exact one. The lower number of each fraction is above 0
+pub record Near (b : Frac) (row : ClusterRow) (q : ExactCluster) : Type 0 where
+  pub index : row .index ≡ q .group .first .index
+  pub collapsed : eqb (row .flags / 32 % 2) 1 ≡ q .collapsed
+  pub finite : T (isFinite (row .x))
+  pub above : (0 < valueOf (row .x) .den) × (0 < q .x .den) × (0 < b .den)
+  pub distance : T (leᵠ (absᵠ (valueOf (row .x) -ᵠ q .x)) b)
+
+-- an answer's chunk, given the merged glyphs of the job's: as many clusters, each near
+unfoldable pub NearChunk : Job → ℕ → Chunk → Outcome (List Glyph) → ChunkRow → Type 0
+NearChunk job offset c (refused n) row = ⊥
+NearChunk job offset c (given gs) row =
+    let cs = formedExactly job c gs in
+    AllPairs (Near (allowed 18 job offset c cs)) (row .clusters) (layoutExactly job offset c cs)
+
+-- as many chunks, each near
+unfoldable pub NearChunks : Job → ℕ → List Chunk → List ChunkRow → Type 0
+NearChunks job offset [] [] = Unit {0}
+NearChunks job offset [] (row ∷ rows) = ⊥
+NearChunks job offset (c ∷ cs) [] = ⊥
+NearChunks job offset (c ∷ cs) (row ∷ rows) =
+    NearChunk job offset c (mergeGlyphs (c .parts)) row × NearChunks job (offset + characters (c .text)) cs rows
+
+-- an answer's bytes, of the checked job
+unfoldable pub NearAnswer : Outcome Job → List ℕ → Type 0
+NearAnswer (refused n) answer = ⊥
+NearAnswer (given job) answer = NearChunks job 0 (job .chunks) (readAnswer answer)

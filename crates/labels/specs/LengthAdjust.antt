@@ -1,0 +1,46 @@
+-- Step 6: text length, by Spacing. (SpacingAndGlyphs changes no advance: Cluster.) Definitions only.
+use Prim.Native.Nat.{ℕ, _+_, _-_}
+use mathlib.Core.Bool.{not, cond, _&&_}
+use mathlib.Core.List.{List, [], _∷_, foldl}
+use lib.ListN.{length}
+use lib.Dec.{ltb}
+use lib.Ieee.{Float}
+use Rattle.labels.specs.Lists.{among, modify, atOr}
+use Rattle.labels.specs.Job.{Span}
+use Rattle.labels.specs.Merge.{spanContains}
+use Rattle.labels.specs.Kind.{Kind, indexes}
+
+-- ---- the places of the clusters that take part, from their byte indexes: those that the span covers, and of one byte index only the first.
+-- `seen` has the byte indexes before, and the first of the rest stands at place k
+unfoldable pub placesFrom : Span → List ℕ → ℕ → List ℕ → List ℕ
+placesFrom s seen k [] = []
+placesFrom s seen k (i ∷ is) =
+    let rest = placesFrom s (i ∷ seen) (k + 1) is in
+    cond (spanContains s i && not (among i seen)) (k ∷ rest) rest
+
+module _ (K : Kind) where
+  open Kind K using (Num, ofFloat, nought, _⊕_, _⊖_, _⊘_, Cluster, width, withSpacing)
+
+  infixl 75 _⊕_ _⊖_
+  infixl 80 _⊘_
+  -- the Rust's cluster_indexes
+  abbrev pub clusterIndexes : Span → List Cluster → List ℕ
+  clusterIndexes s cs = placesFrom s [] 0 (indexes K cs)
+
+  -- ---- a number of each cluster, added up over the places in order
+  abbrev pub sumAt : (Cluster → Num) → List Cluster → List ℕ → Num
+  sumAt f cs is = foldl (λ (w : Num) (i : ℕ). w ⊕ atOr nought f cs i) nought is
+
+  -- ---- what each of n clusters gets of the target: (target − sum) ÷ (n − 1), or 0 for one cluster
+  unfoldable pub spacingFactor : Float → Num → ℕ → Num
+  spacingFactor target sum n = cond (ltb 1 n) ((ofFloat target ⊖ sum) ⊘ (n - 1)) nought
+
+  -- ---- the advance becomes the width and the factor, which is kept as length spacing
+  abbrev pub stretchedBy : Num → Cluster → Cluster
+  stretchedBy factor c = withSpacing (width c ⊕ factor) factor c
+
+  unfoldable pub adjustSpacingOf : Span → List Cluster → List Cluster
+  adjustSpacingOf s cs =
+      let is = clusterIndexes s cs in
+      let factor = spacingFactor (s .length) (sumAt width cs is) (length is) in
+      foldl (modify (stretchedBy factor)) cs is

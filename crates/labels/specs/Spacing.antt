@@ -1,0 +1,46 @@
+-- Steps 4 and 5: letter spacing and word spacing. Definitions only.
+use Prim.Native.Nat.{ℕ, _-_}
+use mathlib.Core.Bool.{Bool, not, cond}
+use mathlib.Core.List.{List, map}
+use lib.ListN.{length}
+use lib.Dec.{eqb}
+use lib.Ieee.{Float}
+use Rattle.labels.specs.Lists.{scan, any}
+use Rattle.labels.specs.Single.{isZero}
+use Rattle.labels.specs.Job.{Span, spanAt}
+use Rattle.labels.specs.Script.{scriptSupportsLetterSpacing, isWordSeparatorAt}
+use Rattle.labels.specs.Kind.{Kind}
+
+module _ (K : Kind) where
+  open Kind K using (ofFloat, _⊕_, Cluster, index, tag, span, advance, withAdvance, collapses, collapse)
+
+  infixl 75 _⊕_
+  -- ---- 4: letter spacing
+
+  unfoldable pub settled : Cluster → Cluster
+  settled c = cond (collapses c) (collapse c) c
+
+  -- the spacing is added, but not to the last cluster; the last too may collapse
+  unfoldable pub letterSpaced : Float → Bool → Cluster → Cluster
+  letterSpaced letter last c = settled (cond last c (withAdvance (advance c ⊕ ofFloat letter) c))
+
+  -- the next cluster, of which `left` are still to come, itself counted
+  unfoldable pub nextLetterSpaced : List Span → ℕ → Cluster → Cluster
+  nextLetterSpaced spans left c =
+      cond (scriptSupportsLetterSpacing (tag c)) (letterSpaced (spanAt spans (span c) .letter) (eqb left 1) c) c
+
+  -- if any span's letter spacing is not zero
+  unfoldable pub applyLetterSpacing : List Span → List Cluster → List Cluster
+  applyLetterSpacing spans cs =
+      cond (any (λ (s : Span). not (isZero (s .letter))) spans)
+      (scan (λ (left : ℕ) (c : Cluster). left - 1) (nextLetterSpaced spans) (length cs) cs) cs
+
+  -- ---- 5: word spacing
+
+  unfoldable pub wordSpaced : List ℕ → List Span → Cluster → Cluster
+  wordSpaced text spans c =
+      cond (isWordSeparatorAt text (index c)) (withAdvance (advance c ⊕ ofFloat (spanAt spans (span c) .word)) c) c
+
+  -- if any span's word spacing is not zero
+  unfoldable pub applyWordSpacing : List ℕ → List Span → List Cluster → List Cluster
+  applyWordSpacing text spans cs = cond (any (λ (s : Span). not (isZero (s .word))) spans) (map (wordSpaced text spans) cs) cs

@@ -1,0 +1,1 @@
+// Fractions, and what a float stands for. There is no code here.
