@@ -7,7 +7,7 @@ use lib.Dec.{leb, ltb, eqb}
 use lib.IntN.{ℤ, natAbs}
 use lib.Ieee.{Float, neg}
 use Rattle.labels.specs.Outcome.{Outcome, refused, given}
-use Rattle.labels.specs.Lists.{all, isEmpty}
+use Rattle.labels.specs.Lists.{all, every, isEmpty}
 use Rattle.labels.specs.Bytes.{be}
 use Rattle.labels.specs.Single.{smallest, largest, smallestSize, largestSize, isZero, between, isZeroBits}
 use Rattle.labels.specs.Job.{Font, Glyph, Shift, Span, SpanParts, Chunk, Job, limits, jobVersion, topToBottom, anchorEnd, flowLinear, adjustSpacingAndGlyphs, noFont, hasX, hasY, hasLength, spansOf}
@@ -18,7 +18,7 @@ use Rattle.labels.specs.Utf8.{isUtf8, startsAt}
 
 -- from 5 bytes to the limit, and the length field is the byte count less 4
 unfoldable pub lengthOk : List ℕ → Bool
-lengthOk bs = leb 5 (length bs) && leb (length bs) (limits .bytes) && eqb (be 4 bs) (length bs - 4)
+lengthOk bs = every (leb 5 (length bs) ∷ leb (length bs) (limits .bytes) ∷ eqb (be 4 bs) (length bs - 4) ∷ [])
 
 unfoldable pub versionOk : List ℕ → Bool
 versionOk bs = eqb (getD bs 4 0) jobVersion
@@ -46,38 +46,70 @@ abbrev pub unitsOk : ℤ → Bool
 unitsOk z = leb (natAbs z) 65535
 
 unfoldable pub fontOk : Font → Bool
-fontOk f = ltb 0 (f .units) && ltb 0 (f .xheight) && ltb 0 (f .thickness)
+fontOk f = every (ltb 0 (f .units) ∷ ltb 0 (f .xheight) ∷ ltb 0 (f .thickness) ∷ [])
 
 -- `fonts` is the font count
 unfoldable pub glyphOk : ℕ → Glyph → Bool
 glyphOk fonts g =
-    leb 1 (g .length) && leb (g .length) 64 && unitsOk (g .dx) && unitsOk (g .dy) && unitsOk (g .width)
-    && ltb (g .font) fonts && leb (g .orientation) 1
+    every
+    (leb 1 (g .length)
+    ∷ leb (g .length) 64
+    ∷ unitsOk (g .dx)
+    ∷ unitsOk (g .dy)
+    ∷ unitsOk (g .width)
+    ∷ ltb (g .font) fonts
+    ∷ leb (g .orientation) 1
+    ∷ [])
 
 unfoldable pub shiftOk : Shift → Bool
-shiftOk s = leb (s .kind) 3 && flaggedOk (eqb (s .kind) 3) (s .number)
+shiftOk s = every (leb (s .kind) 3 ∷ flaggedOk (eqb (s .kind) 3) (s .number) ∷ [])
 
 unfoldable pub spanOk : ℕ → Span → Bool
 spanOk fonts s =
-    (ltb (s .font) fonts || eqb (s .font) noFont) && sizeOk (s .size) && floatOk (s .letter) && floatOk (s .word) && leb (s .fixed) 1
-    && flaggedOk (hasLength s) (s .length) && leb (s .adjust) adjustSpacingAndGlyphs && leb (s .dominant) 11 && leb (s .alignment) 11
-    && leb (s .decorations) 7
+    every
+    ((ltb (s .font) fonts || eqb (s .font) noFont)
+    ∷ sizeOk (s .size)
+    ∷ floatOk (s .letter)
+    ∷ floatOk (s .word)
+    ∷ leb (s .fixed) 1
+    ∷ flaggedOk (hasLength s) (s .length)
+    ∷ leb (s .adjust) adjustSpacingAndGlyphs
+    ∷ leb (s .dominant) 11
+    ∷ leb (s .alignment) 11
+    ∷ leb (s .decorations) 7
+    ∷ [])
 
 -- a span with no font has no glyphs
 unfoldable pub partsOk : ℕ → SpanParts → Bool
 partsOk fonts p =
-    spanOk fonts (p .span) && (not (eqb (p .span .font) noFont) || isEmpty (p .glyphs)) && all shiftOk (p .shifts)
-    && all (glyphOk fonts) (p .glyphs)
+    every
+    (spanOk fonts (p .span)
+    ∷ (not (eqb (p .span .font) noFont) || isEmpty (p .glyphs))
+    ∷ all shiftOk (p .shifts)
+    ∷ all (glyphOk fonts) (p .glyphs)
+    ∷ [])
 
 unfoldable pub chunkOk : ℕ → Chunk → Bool
 chunkOk fonts c =
-    leb (c .flags) 3 && flaggedOk (hasX c) (c .x) && flaggedOk (hasY c) (c .y) && leb (c .anchor) anchorEnd && eqb (c .flow) flowLinear
-    && all (partsOk fonts) (c .parts)
+    every
+    (leb (c .flags) 3
+    ∷ flaggedOk (hasX c) (c .x)
+    ∷ flaggedOk (hasY c) (c .y)
+    ∷ leb (c .anchor) anchorEnd
+    ∷ eqb (c .flow) flowLinear
+    ∷ all (partsOk fonts) (c .parts)
+    ∷ [])
 
 unfoldable pub valuesOk : Job → Bool
 valuesOk j =
-    leb (j .mode) topToBottom && all fontOk (j .fonts) && all floatOk (j .dx) && all floatOk (j .dy) && all floatOk (j .rotate)
-    && all (chunkOk (length (j .fonts))) (j .chunks)
+    every
+    (leb (j .mode) topToBottom
+    ∷ all fontOk (j .fonts)
+    ∷ all floatOk (j .dx)
+    ∷ all floatOk (j .dy)
+    ∷ all floatOk (j .rotate)
+    ∷ all (chunkOk (length (j .fonts))) (j .chunks)
+    ∷ [])
 
 -- ---- 5: the text is UTF-8, and each glyph's byte index is the start of a character
 

@@ -1,12 +1,13 @@
 -- A job's bytes as its parts. A record's size follows from its own counts, so a list of records is read one after the other.
 -- The readers are total: what they give means something only where check 3 passes (`shaped`). Definitions only.
 use Prim.Native.Nat.{ℕ, _+_, _*_}
-use mathlib.Core.Bool.{Bool, _&&_}
-use mathlib.Core.List.{List}
+use mathlib.Core.Bool.{Bool}
+use mathlib.Core.List.{List, [], _∷_}
 use lib.ListN.{take, drop, length}
 use lib.Dec.{leb, eqb}
 use lib.Ieee.{Float}
 use Rattle.labels.specs.Bytes.{be, signed, float, rows, sizes, each}
+use Rattle.labels.specs.Lists.{every}
 use Rattle.labels.specs.Job.{Font, Glyph, Shift, Span, SpanParts, Chunk, Job, limits}
 
 -- ---- rows of a fixed size
@@ -87,7 +88,7 @@ unfoldable pub spanSize : List ℕ → ℕ
 spanSize bs = glyphsAt bs + 2 + glyphCount bs * glyphBytes
 
 unfoldable pub spanFits : List ℕ → Bool
-spanFits bs = leb (shiftCount bs) (limits .shifts) && leb (glyphCount bs) (limits .glyphs) && leb (spanSize bs) (length bs)
+spanFits bs = every (leb (shiftCount bs) (limits .shifts) ∷ leb (glyphCount bs) (limits .glyphs) ∷ leb (spanSize bs) (length bs) ∷ [])
 
 unfoldable pub partsOf : List ℕ → SpanParts
 partsOf bs =
@@ -114,8 +115,12 @@ chunkSize bs = 14 + textSize bs + sizes spanSize (spanCount bs) (spanBytes bs)
 
 unfoldable pub chunkFits : List ℕ → Bool
 chunkFits bs =
-    leb (textSize bs) (limits .text) && leb (spanCount bs) (limits .spans) && leb (14 + textSize bs) (length bs)
-    && each spanSize spanFits (spanCount bs) (spanBytes bs)
+    every
+    (leb (textSize bs) (limits .text)
+    ∷ leb (spanCount bs) (limits .spans)
+    ∷ leb (14 + textSize bs) (length bs)
+    ∷ each spanSize spanFits (spanCount bs) (spanBytes bs)
+    ∷ [])
 
 unfoldable pub chunkOf : List ℕ → Chunk
 chunkOf bs =
@@ -135,7 +140,7 @@ unfoldable pub listSize : List ℕ → ℕ
 listSize bs = 2 + be 2 bs * floatSize
 
 unfoldable pub listFits : List ℕ → Bool
-listFits bs = leb (be 2 bs) (limits .list) && leb (listSize bs) (length bs)
+listFits bs = every (leb (be 2 bs) (limits .list) ∷ leb (listSize bs) (length bs) ∷ [])
 
 unfoldable pub listOf : List ℕ → List Float
 listOf bs = rows (λ r. floatSize) float (be 2 bs) (drop 2 bs)
@@ -172,9 +177,15 @@ chunkBytes bs = drop (chunksAt bs + chunkCountBytes) bs
 -- every count is within its limit, and the counted fields end with the record
 unfoldable pub shaped : List ℕ → Bool
 shaped bs =
-    leb (fontCount bs) (limits .fonts) && listFits (drop (dxAt bs) bs) && listFits (drop (dyAt bs) bs) && listFits (drop (rotateAt bs) bs)
-    && leb (chunkCount bs) (limits .chunks) && each chunkSize chunkFits (chunkCount bs) (chunkBytes bs)
-    && eqb (chunksAt bs + chunkCountBytes + sizes chunkSize (chunkCount bs) (chunkBytes bs)) (length bs)
+    every
+    (leb (fontCount bs) (limits .fonts)
+    ∷ listFits (drop (dxAt bs) bs)
+    ∷ listFits (drop (dyAt bs) bs)
+    ∷ listFits (drop (rotateAt bs) bs)
+    ∷ leb (chunkCount bs) (limits .chunks)
+    ∷ each chunkSize chunkFits (chunkCount bs) (chunkBytes bs)
+    ∷ eqb (chunksAt bs + chunkCountBytes + sizes chunkSize (chunkCount bs) (chunkBytes bs)) (length bs)
+    ∷ [])
 
 unfoldable pub jobOf : List ℕ → Job
 jobOf bs =

@@ -12,6 +12,11 @@ unfoldable pub any : {A : Type 0} → (A → Bool) → List A → Bool
 any p [] = false
 any p (x ∷ xs) = p x || any p xs
 
+-- all the conditions hold
+unfoldable pub every : List Bool → Bool
+every [] = true
+every (b ∷ bs) = b && every bs
+
 -- n is among the numbers
 abbrev pub among : ℕ → List ℕ → Bool
 among n xs = any (λ (k : ℕ). eqb k n) xs

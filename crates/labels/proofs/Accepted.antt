@@ -1,0 +1,230 @@
+-- What a job that is accepted by checks 1 to 6 has: each check passes, and every float is in range. Assumes nothing.
+use Prim.Native.Nat.{ℕ, zero, suc}
+use mathlib.Core.Path.{_≡_, refl, sym, ap, _∙_, subst}
+use mathlib.Core.Bool.{Bool, true, false, not, cond, _&&_, _||_}
+use mathlib.Core.List.{List, [], _∷_}
+use native.Mathlib.Omega.{arith}
+use lib.ListN.{length, drop}
+use lib.Dec.{T, eqb, eqb→eq}
+use lib.Ieee.{Float, binary32, fits, ofBits, toBits, eq}
+use lib.Ieee.Bits.{ofBits-fits, ofBits-toBits}
+use lib.Ieee.Fits.{and-l, and-r, and-i}
+use Rattle.labels.specs.Outcome.{Outcome, refused, given}
+use Rattle.labels.specs.Lists.{all, every}
+use Rattle.labels.specs.Bytes.{float, rows}
+use Rattle.labels.specs.Single.{isZero, isZeroBits}
+use Rattle.labels.specs.Job.{Job, Chunk, Span, SpanParts, Shift, hasX, hasY, hasLength, noFont}
+use Rattle.labels.specs.Decode.{shaped, jobOf, chunkOf, partsOf, spanOf, shiftOf, listOf}
+use Rattle.labels.specs.Check.{Check, checks, firstFailing, checked, afterVersion, lengthOk, versionOk, valuesOk, chunkOk, partsOk, spanOk, shiftOk, sizeOk, floatOk, flaggedOk, textOk, spansOk, fontOk, glyphOk}
+
+-- ---- all of a list
+
+pub data All {A : Type 0} (P : A → Type 0) : List A → Type 0 where
+  none : All P []
+  more : {x : A} {xs : List A} → P x → All P xs → All P (x ∷ xs)
+
+-- a test that passes everywhere
+pub all-of : {A : Type 0} (p : A → Bool) (xs : List A) → T (all p xs) → All (λ x. T (p x)) xs
+unfolding all
+all-of p [] h = All.none
+all-of p (x ∷ xs) h = All.more (and-l (p x) (all p xs) h) (all-of p xs (and-r (p x) (all p xs) h))
+
+-- what holds of every record that is read
+pub all-rows : {A : Type 0} (P : A → Type 0) (size : List ℕ → ℕ) (read : List ℕ → A) → ((bs : List ℕ) → P (read bs)) → (n : ℕ) (bs : List ℕ) → All P (rows size read n bs)
+unfolding rows
+all-rows P size read h zero bs = All.none
+all-rows P size read h (suc n) bs = All.more (h bs) (all-rows P size read h n (drop (size bs) bs))
+
+pub both : {A : Type 0} {P Q R : A → Type 0} {xs : List A} → ((x : A) → P x → Q x → R x) → All P xs → All Q xs → All R xs
+both f All.none All.none = All.none
+both f (All.more {x = x} p ps) (All.more q qs) = All.more (f x p q) (both f ps qs)
+
+-- conditions that all hold
+pub all-every : (bs : List Bool) → T (every bs) → All T bs
+unfolding every
+all-every [] h = All.none
+all-every (b ∷ bs) h = All.more (and-l b (every bs) h) (all-every bs (and-r b (every bs) h))
+
+pub first : {A : Type 0} {P : A → Type 0} {x : A} {xs : List A} → All P (x ∷ xs) → P x
+first (All.more p ps) = p
+
+pub rest : {A : Type 0} {P : A → Type 0} {x : A} {xs : List A} → All P (x ∷ xs) → All P xs
+rest (All.more p ps) = ps
+
+-- ---- each check passes
+
+pub record Accepted (bs : List ℕ) (job : Job) : Type 0 where
+  pub is : jobOf (afterVersion bs) ≡ job
+  pub size : T (lengthOk bs)
+  pub version : T (versionOk bs)
+  pub shape : T (shaped (afterVersion bs))
+  pub values : T (valuesOk job)
+  pub text : T (all textOk (job .chunks))
+  pub spans : T (all spansOk (job .chunks))
+
+-- no check is the first that fails
+passed : {A : Type 0} (cs : List Check) (bs : List ℕ) (a b : A) → firstFailing cs bs (given a) ≡ given b → (a ≡ b) × T (all (λ c. c .passes bs) cs)
+unfolding firstFailing all
+passed [] bs a b e = (cc, tt)
+passed {A} (c ∷ cs) bs a b e = go (c .passes bs) refl (passed cs bs a b)
+  where
+    go : (p : Bool) → c .passes bs ≡ p → (firstFailing cs bs (given a) ≡ given b → (a ≡ b) × T (all (λ c. c .passes bs) cs)) → (a ≡ b) × T (c .passes bs && all (λ c. c .passes bs) cs)
+    go true h rest = rw h (rest (rw h at e))
+    go false h rest =
+        let impossible : refused (c .number) ≡ given b = rw h at e in
+        let z : _≡_ {A = ℕ} 0 1 = cc in
+        absurd (omega arith)
+
+pub accepted : (bs : List ℕ) (job : Job) → checked bs ≡ given job → Accepted bs job
+unfolding checked checks
+accepted bs job e =
+    let p = passed checks bs (jobOf (afterVersion bs)) job e in
+    let from-2 = rest (all-of (λ (c : Check). c .passes bs) checks (p .1)) in
+    let from-4 = rest (rest from-2) in
+    record {
+      is = p .0;
+      size = first (all-of (λ (c : Check). c .passes bs) checks (p .1));
+      version = first from-2;
+      shape = first (rest from-2);
+      values = subst (λ (j : Job). T (valuesOk j)) (p .0) (first from-4);
+      text = subst (λ (j : Job). T (all textOk (j .chunks))) (p .0) (first (rest from-4));
+      spans = subst (λ (j : Job). T (all spansOk (j .chunks))) (p .0) (first (rest (rest from-4)));
+    }
+
+-- ---- every float of a job is in range
+
+-- representable, and zero or of a size from 2 ^ -20 to 2 ^ 20
+abbrev pub InRange : Float → Type 0
+InRange x = T (fits binary32 x) × T (floatOk x)
+
+pub record RangedSpan (s : Span) : Type 0 where
+  pub size : T (fits binary32 (s .size)) × T (sizeOk (s .size))
+  pub letter : InRange (s .letter)
+  pub word : InRange (s .word)
+  pub length : InRange (s .length)
+
+pub record RangedParts (p : SpanParts) : Type 0 where
+  pub span : RangedSpan (p .span)
+  pub shifts : All (λ s. InRange (s .number)) (p .shifts)
+
+pub record RangedChunk (c : Chunk) : Type 0 where
+  pub x : InRange (c .x)
+  pub y : InRange (c .y)
+  pub parts : All RangedParts (c .parts)
+
+pub record RangedJob (j : Job) : Type 0 where
+  pub dx : All InRange (j .dx)
+  pub dy : All InRange (j .dy)
+  pub rotate : All InRange (j .rotate)
+  pub chunks : All RangedChunk (j .chunks)
+
+-- what is read fits
+float-fits : (bs : List ℕ) → T (fits binary32 (float bs))
+unfolding float
+float-fits bs = ofBits-fits binary32 _
+
+-- a float that is there by a flag
+zero-bits : (x : Float) → T (fits binary32 x) → T (isZeroBits x) → ofBits binary32 0 ≡ x
+unfolding isZeroBits
+zero-bits x f h = ap (ofBits binary32) (sym (eqb→eq _ _ h)) ∙ ofBits-toBits binary32 x f
+
+zero-ok : T (floatOk (ofBits binary32 0))
+unfolding floatOk eq ofBits
+zero-ok = tt
+
+flagged : (here : Bool) (x : Float) → T (fits binary32 x) → T (flaggedOk here x) → InRange x
+unfolding flaggedOk
+flagged true x f h = (f, h)
+flagged false x f h = (f, subst (λ (y : Float). T (floatOk y)) (zero-bits x f h) zero-ok)
+
+-- what every reader gives, whatever the bytes: floats that fit
+record FitSpan (s : Span) : Type 0 where
+  size : T (fits binary32 (s .size))
+  letter : T (fits binary32 (s .letter))
+  word : T (fits binary32 (s .word))
+  length : T (fits binary32 (s .length))
+
+record FitParts (p : SpanParts) : Type 0 where
+  span : FitSpan (p .span)
+  shifts : All (λ s. T (fits binary32 (s .number))) (p .shifts)
+
+record FitChunk (c : Chunk) : Type 0 where
+  x : T (fits binary32 (c .x))
+  y : T (fits binary32 (c .y))
+  parts : All FitParts (c .parts)
+
+span-fits : (bs : List ℕ) → FitSpan (spanOf bs)
+unfolding spanOf
+span-fits bs = record { size = float-fits _; letter = float-fits _; word = float-fits _; length = float-fits _ }
+
+shift-fits : (bs : List ℕ) → T (fits binary32 (shiftOf bs .number))
+unfolding shiftOf
+shift-fits bs = float-fits _
+
+parts-fit : (bs : List ℕ) → FitParts (partsOf bs)
+unfolding partsOf
+parts-fit bs = record { span = span-fits bs; shifts = all-rows (λ s. T (fits binary32 (s .number))) _ shiftOf shift-fits _ _ }
+
+chunk-fits : (bs : List ℕ) → FitChunk (chunkOf bs)
+unfolding chunkOf
+chunk-fits bs = record { x = float-fits _; y = float-fits _; parts = all-rows FitParts _ partsOf parts-fit _ _ }
+
+list-fits : (bs : List ℕ) → All (λ x. T (fits binary32 x)) (listOf bs)
+unfolding listOf
+list-fits bs = all-rows (λ x. T (fits binary32 x)) _ float float-fits _ _
+
+-- with check 4
+span-ranged : (fonts : ℕ) (s : Span) → FitSpan s → T (spanOk fonts s) → RangedSpan s
+unfolding spanOk
+span-ranged fonts s f t =
+    let from-size = rest (all-every _ t) in
+    let from-word = rest (rest from-size) in
+    record {
+      size = (f .size, first from-size);
+      letter = (f .letter, first (rest from-size));
+      word = (f .word, first from-word);
+      length = flagged (hasLength s) (s .length) (f .length) (first (rest (rest from-word)));
+    }
+
+shift-ranged : (s : Shift) → T (fits binary32 (s .number)) → T (shiftOk s) → InRange (s .number)
+unfolding shiftOk
+shift-ranged s f t = flagged _ (s .number) f (first (rest (all-every _ t)))
+
+parts-ranged : (fonts : ℕ) (p : SpanParts) → FitParts p → T (partsOk fonts p) → RangedParts p
+unfolding partsOk
+parts-ranged fonts p f t =
+    let conditions = all-every _ t in
+    record {
+      span = span-ranged fonts (p .span) (f .span) (first conditions);
+      shifts = both shift-ranged (f .shifts) (all-of shiftOk (p .shifts) (first (rest (rest conditions))));
+    }
+
+chunk-ranged : (fonts : ℕ) (c : Chunk) → FitChunk c → T (chunkOk fonts c) → RangedChunk c
+unfolding chunkOk
+chunk-ranged fonts c f t =
+    let from-x = rest (all-every _ t) in
+    record {
+      x = flagged (hasX c) (c .x) (f .x) (first from-x);
+      y = flagged (hasY c) (c .y) (f .y) (first (rest from-x));
+      parts = both (parts-ranged fonts) (f .parts) (all-of (partsOk fonts) (c .parts) (first (rest (rest (rest (rest from-x))))));
+    }
+
+list-ranged : (bs : List ℕ) → T (all floatOk (listOf bs)) → All InRange (listOf bs)
+list-ranged bs t = both (λ x f h. (f, h)) (list-fits bs) (all-of floatOk (listOf bs) t)
+
+ranged : (bs : List ℕ) → T (valuesOk (jobOf bs)) → RangedJob (jobOf bs)
+unfolding valuesOk jobOf
+ranged bs t =
+    let from-dx = rest (rest (all-every _ t)) in
+    let chunks = jobOf bs .chunks in
+    record {
+      dx = list-ranged _ (first from-dx);
+      dy = list-ranged _ (first (rest from-dx));
+      rotate = list-ranged _ (first (rest (rest from-dx)));
+      chunks = both (chunk-ranged _) (all-rows FitChunk _ chunkOf chunk-fits _ _) (all-of _ chunks (first (rest (rest (rest from-dx)))));
+    }
+
+pub floats-in-range : (bs : List ℕ) (job : Job) → checked bs ≡ given job → RangedJob job
+floats-in-range bs job e =
+    let a = accepted bs job e in
+    subst RangedJob (a .is) (ranged (afterVersion bs) (subst (λ (j : Job). T (valuesOk j)) (sym (a .is)) (a .values)))
