@@ -11,24 +11,31 @@ use Rattle.labels.specs.Script.Tag.{tag}
 unfoldable pub fontRow : List ℕ
 fontRow = 8 ∷ 0 ∷ 6 ∷ 0 ∷ 254 ∷ 0 ∷ 4 ∷ 0 ∷ 255 ∷ 0 ∷ 0 ∷ 128 ∷ 0 ∷ 0 ∷ 0 ∷ 0 ∷ 2 ∷ 128 ∷ []
 
--- a glyph of font 0 with no offset: id, byte index, cluster length, width, tag, orientation
-unfoldable pub glyphRow : ℕ → ℕ → ℕ → ℕ → ℕ → ℕ → List ℕ
-glyphRow id index long width script orientation =
-    bytes 4 id ++ bytes 2 index ++ bytes 1 long ++ bytes 4 0 ++ bytes 4 0 ++ bytes 4 width ++ bytes 1 0 ++ bytes 4 script ++ bytes 1 orientation
+-- a glyph of font 0: id, byte index, cluster length, dx, dy, width, tag, orientation
+unfoldable pub glyphRow : ℕ → ℕ → ℕ → ℕ → ℕ → ℕ → ℕ → ℕ → List ℕ
+glyphRow id index long dx dy width script orientation =
+    bytes 4 id ++ bytes 2 index ++ bytes 1 long ++ bytes 4 dx ++ bytes 4 dy ++ bytes 4 width ++ bytes 1 0 ++ bytes 4 script ++ bytes 1 orientation
 
--- Latin letters, sideways, 1280 wide
+-- a Latin letter of some width with no offset, and one of 1280 units
+unfoldable pub wideRow : ℕ → ℕ → ℕ → ℕ → List ℕ
+wideRow id index long width = glyphRow id index long 0 0 width (tag "Latn") 0
+
 unfoldable pub letterRow : ℕ → ℕ → ℕ → List ℕ
-letterRow id index long = glyphRow id index long 1280 (tag "Latn") 0
+letterRow id index long = wideRow id index long 1280
 
 unfoldable pub floatList : List ℕ → List ℕ
 floatList xs = bytes 2 (length xs) ++ flatMap (bytes 4) xs
 
--- a span of size 16 with no spacing, no text length and no decoration
+-- a span of size 16 with font 0 and no decoration: start, end, letter and word spacing, text length (flag, target, adjust), shifts, glyphs
+unfoldable pub spanRow : ℕ → ℕ → ℕ → ℕ → ℕ → ℕ → ℕ → List (List ℕ) → List (List ℕ) → List ℕ
+spanRow from to letter word fixed target adjust shifts glyphs =
+    bytes 2 from ++ bytes 2 to ++ bytes 1 0 ++ bytes 4 0x41800000 ++ bytes 4 letter ++ bytes 4 word ++ bytes 1 fixed ++ bytes 4 target
+    ++ bytes 1 adjust ++ bytes 3 0 ++ bytes 1 (length shifts) ++ flatMap (λ (s : List ℕ). s) shifts
+    ++ bytes 2 (length glyphs) ++ flatMap (λ (g : List ℕ). g) glyphs
+
+-- with no spacing, no text length and no shift
 unfoldable pub plainSpan : ℕ → ℕ → List (List ℕ) → List ℕ
-plainSpan from to glyphs =
-    bytes 2 from ++ bytes 2 to ++ bytes 1 0 ++ bytes 4 0x41800000 ++ bytes 4 0 ++ bytes 4 0 ++ bytes 1 0 ++ bytes 4 0 ++ bytes 4 0 ++ bytes 1 0
-    ++ bytes 2 (length glyphs)
-    ++ flatMap (λ (g : List ℕ). g) glyphs
+plainSpan from to glyphs = spanRow from to 0 0 0 0 0 [] glyphs
 
 -- at (100, 50)
 unfoldable pub chunkRow : ℕ → List ℕ → List (List ℕ) → List ℕ
@@ -37,14 +44,20 @@ chunkRow anchor text spans =
     ++ bytes 1 (length spans)
     ++ flatMap (λ (s : List ℕ). s) spans
 
--- a job of one font: version, writing mode, dx list, chunks
-unfoldable pub jobRow : ℕ → ℕ → List ℕ → List (List ℕ) → List ℕ
-jobRow version mode dx chunks =
-    let body =
-    bytes 1 version ++ bytes 1 mode ++ bytes 1 1 ++ fontRow ++ floatList dx ++ floatList [] ++ floatList []
-    ++ bytes 1 (length chunks)
-    ++ flatMap (λ (c : List ℕ). c) chunks in
-    bytes 4 (length body) ++ body
+-- a record: its length field, and what follows
+unfoldable pub recordRow : List ℕ → List ℕ
+recordRow body = bytes 4 (length body) ++ body
+
+-- a job: writing mode, font rows, dx and rotate lists, chunks
+unfoldable pub jobRow : ℕ → List (List ℕ) → List ℕ → List ℕ → List (List ℕ) → List ℕ
+jobRow mode fonts dx rotate chunks =
+    recordRow
+    (bytes 1 1 ++ bytes 1 mode ++ bytes 1 (length fonts) ++ flatMap (λ (f : List ℕ). f) fonts ++ floatList dx ++ floatList [] ++ floatList rotate
+    ++ bytes 1 (length chunks) ++ flatMap (λ (c : List ℕ). c) chunks)
+
+-- left to right, with the label's font
+unfoldable pub plainJob : List ℕ → List ℕ → List (List ℕ) → List ℕ
+plainJob dx rotate chunks = jobRow 0 (fontRow ∷ []) dx rotate chunks
 
 -- ---- the label
 
@@ -74,13 +87,13 @@ labelSpan v =
     ++ bytes 1 (length (v .shifts))
     ++ flatMap (λ (k : ℕ). bytes 1 k ++ bytes 4 0) (v .shifts)
     ++ bytes 2 3
-    ++ glyphRow 0 0 1 1280 (v .script) (v .upright)
-    ++ glyphRow 0 1 1 512 (v .script) 0
-    ++ glyphRow 0 2 1 1280 (v .script) 0
+    ++ glyphRow 0 0 1 0 0 1280 (v .script) (v .upright)
+    ++ glyphRow 0 1 1 0 0 512 (v .script) 0
+    ++ glyphRow 0 2 1 0 0 1280 (v .script) 0
 
 -- text "A B", anchor end
 unfoldable pub labelJob : Variant → List ℕ
-labelJob v = jobRow 1 (v .mode) (v .dx) (chunkRow 2 (65 ∷ 32 ∷ 66 ∷ []) (labelSpan v ∷ []) ∷ [])
+labelJob v = jobRow (v .mode) (fontRow ∷ []) (v .dx) [] (chunkRow 2 (65 ∷ 32 ∷ 66 ∷ []) (labelSpan v ∷ []) ∷ [])
 
 -- left to right, A sideways, no text length, no alignment, no shift, no dx: tag Latn and letter spacing 1 in the label itself
 unfoldable pub plainVariant : ℕ → ℕ → Variant
@@ -89,5 +102,5 @@ plainVariant script letter =
 
 -- ---- opens all of these, for computed tests
 unfoldable pub built : Unit {0}
-unfolding fontRow glyphRow letterRow floatList plainSpan chunkRow jobRow labelSpan labelJob plainVariant
+unfolding fontRow glyphRow wideRow letterRow floatList spanRow plainSpan chunkRow recordRow jobRow plainJob labelSpan labelJob plainVariant
 built = tt

@@ -2,53 +2,44 @@
 -- seen of its layout, in the rows and in the answer's bytes.
 use Prim.Native.Nat.{ℕ, suc}
 use mathlib.Core.Path.{_≡_, refl}
-use mathlib.Core.Bool.{Bool, true, false, _&&_}
 use mathlib.Core.List.{List, [], _∷_, _++_, map}
-use lib.ListN.{length}
-use lib.Dec.{T, eqb}
-use lib.IntN.{pos, negℤ}
-use lib.Ieee.{Float, binary32, ofInt, toBits}
-use Rattle.labels.specs.Outcome.{Outcome, refused, given, andThen}
-use Rattle.labels.specs.Lists.{all}
+use lib.ListN.{length, take}
+use Rattle.labels.specs.Outcome.{Outcome, given, andThen}
 use Rattle.labels.specs.Check.{checked}
 use Rattle.labels.specs.Script.Tag.{tag}
 use Rattle.labels.specs.Decoration.{Run}
 use Rattle.labels.specs.Answer.{ChunkRow, ClusterRow, SpanRow, readAnswer}
 use Rattle.labels.specs.Layout.{LaidChunk, layoutJob, layoutOf, rowsOf}
 use Rattle.labels.specs.Compute.{computed}
+use Rattle.labels.proofs.Seen.{bits, whole, below, -0, shown}
 use Rattle.labels.proofs.Jobs.{Variant, plainVariant, labelJob, built}
 
 -- ---- what is seen of a layout: the lines that platelist prints, each cluster's with its scale, nudge, ascent and shift y besides
 
-bits : Float → ℕ
-bits x = toBits binary32 x
-
 clusterLines : ℕ → List ClusterRow → List (List ℕ)
-unfolding bits
 clusterLines k [] = []
 clusterLines k (c ∷ cs) =
     (k ∷ c .index ∷ c .flags ∷ bits (c .width) ∷ bits (c .advance) ∷ bits (c .x) ∷ bits (c .scale) ∷ bits (c .nudge) ∷ bits (c .ascent) ∷ bits (c .y) ∷ [])
     ∷ clusterLines (suc k) cs
 
 runLines : ℕ → List Run → List (List ℕ)
-unfolding bits
 runLines k [] = []
 runLines k (r ∷ rs) = (k ∷ r .first ∷ bits (r .width) ∷ []) ∷ runLines k rs
 
 spanLines : List SpanRow → List (List ℕ)
-unfolding bits runLines
+unfolding runLines
 spanLines [] = []
 spanLines (s ∷ ss) = (s .index ∷ bits (s .baseline) ∷ bits (s .thickness) ∷ bits (s .under) ∷ []) ∷ (runLines (s .index) (s .runs) ++ spanLines ss)
 
 lines : ℕ → List ChunkRow → List (List ℕ)
-unfolding bits clusterLines spanLines
+unfolding clusterLines spanLines
 lines k [] = []
 lines k (c ∷ cs) =
     (k ∷ length (c .clusters) ∷ bits (c .penX) ∷ bits (c .penY) ∷ []) ∷ (clusterLines 0 (c .clusters) ++ (spanLines (c .spans) ++ lines (suc k) cs))
 
 -- the extents, and the lines, of the rows laid out
 laid : List ℕ → Outcome (List ℕ × List (List ℕ))
-unfolding bits lines
+unfolding lines
 laid bs =
     andThen (checked bs) (λ j. andThen (layoutJob j) (λ cs. given (map (λ (c : LaidChunk). bits (c .extent)) cs, lines 0 (rowsOf cs))))
 
@@ -64,52 +55,12 @@ pub record Case : Type 0 where
   pub extent : ℕ
   pub expected : List (List ℕ)
 
-sameList : List ℕ → List ℕ → Bool
-sameList [] [] = true
-sameList [] (y ∷ ys) = false
-sameList (x ∷ xs) [] = false
-sameList (x ∷ xs) (y ∷ ys) = eqb x y && sameList xs ys
-
-sameLines : List (List ℕ) → List (List ℕ) → Bool
-unfolding sameList
-sameLines [] [] = true
-sameLines [] (y ∷ ys) = false
-sameLines (x ∷ xs) [] = false
-sameLines (x ∷ xs) (y ∷ ys) = sameList x y && sameLines xs ys
-
-laidRight : Case → Outcome (List ℕ × List (List ℕ)) → Bool
-unfolding sameList sameLines
-laidRight c (refused n) = false
-laidRight c (given l) = sameList (l .0) (c .extent ∷ []) && sameLines (l .1) (c .expected)
-
-writtenRight : Case → Outcome (List (List ℕ)) → Bool
-unfolding sameLines
-writtenRight c (refused n) = false
-writtenRight c (given ls) = sameLines ls (c .expected)
-
-right : Case → Bool
-unfolding laid written laidRight writtenRight
-right c = let bs = labelJob (c .variant) in laidRight c (laid bs) && writtenRight c (written bs)
-
--- the pattern of a whole number, and of one below zero
-whole : ℕ → ℕ
-whole n = toBits binary32 (ofInt binary32 (pos n))
-
-below : ℕ → ℕ
-below n = toBits binary32 (ofInt binary32 (negℤ (pos n)))
-
--- minus zero
--0 : ℕ
--0 = 0x80000000
-
--- index, clusters, pen
--- index, byte index, flags, width, advance, shift x; scale, nudge, ascent, shift y
--- index, baseline shift, thickness, under offset
--- span, first cluster, width
+-- The expected lines:
+-- a chunk's: index, clusters, pen; a cluster's: index, byte index, flags, width, advance, shift x, scale, nudge, ascent, shift y;
+-- a span's: index, baseline shift, thickness, under offset; a run's: span, first cluster, width
 
 -- the label itself
 P1 : Case
-unfolding whole below
 P1 =
     record {
       variant = plainVariant (tag "Latn") (whole 1);
@@ -126,7 +77,6 @@ P1 =
 
 -- text length 54, Spacing: advances 25, 19, 25, extent 54
 P2 : Case
-unfolding whole below
 P2 =
     record {
       variant = record { mode = 0; upright = 0; script = tag "Latn"; letter = whole 1; fixed = 1; target = whole 54; adjust = 0; alignment = 0; shifts = []; dx = [] };
@@ -143,7 +93,6 @@ P2 =
 
 -- text length 48, SpacingAndGlyphs: scale 2, advances 11, 7, 10
 P3 : Case
-unfolding whole below
 P3 =
     record {
       variant = record { mode = 0; upright = 0; script = tag "Latn"; letter = whole 1; fixed = 1; target = whole 48; adjust = 1; alignment = 0; shifts = []; dx = [] };
@@ -160,7 +109,6 @@ P3 =
 
 -- dx list 0, 3: runs 11 and 17, only the second cluster marked
 P4 : Case
-unfolding whole below
 P4 =
     record {
       variant = record { mode = 0; upright = 0; script = tag "Latn"; letter = whole 1; fixed = 0; target = 0; adjust = 0; alignment = 0; shifts = []; dx = 0 ∷ whole 3 ∷ [] };
@@ -178,7 +126,6 @@ P4 =
 
 -- letter −11: advances 0, 2, 10
 P5 : Case
-unfolding whole below
 P5 =
     record {
       variant = plainVariant (tag "Latn") (below 11);
@@ -195,7 +142,6 @@ P5 =
 
 -- alignment middle: baseline 4
 P6 : Case
-unfolding whole below
 P6 =
     record {
       variant = record { mode = 0; upright = 0; script = tag "Latn"; letter = whole 1; fixed = 0; target = 0; adjust = 0; alignment = 4; shifts = []; dx = [] };
@@ -212,7 +158,6 @@ P6 =
 
 -- superscript: −5
 P7 : Case
-unfolding whole below
 P7 =
     record {
       variant = record { mode = 0; upright = 0; script = tag "Latn"; letter = whole 1; fixed = 0; target = 0; adjust = 0; alignment = 0; shifts = 2 ∷ []; dx = [] };
@@ -230,7 +175,6 @@ P7 =
 -- top to bottom, upright A: nudge 4, ascent 5. Shift y is the accumulated dx negated, and nothing is added to the negated baseline shift:
 -- both are −0. The run begins with the upright cluster and is 28 wide
 P8 : Case
-unfolding whole below -0
 P8 =
     record {
       variant = record { mode = 1; upright = 1; script = tag "Latn"; letter = whole 1; fixed = 0; target = 0; adjust = 0; alignment = 0; shifts = []; dx = [] };
@@ -247,7 +191,6 @@ P8 =
 
 -- tag Arab: advances 10, 6, 10
 P9 : Case
-unfolding whole below
 P9 =
     record {
       variant = plainVariant (tag "Arab") (whole 1);
@@ -265,7 +208,23 @@ P9 =
 table : List Case
 table = P1 ∷ P2 ∷ P3 ∷ P4 ∷ P5 ∷ P6 ∷ P7 ∷ P8 ∷ P9 ∷ []
 
--- every row of the table holds
-all-right : T (all right table)
-unfolding computed built right table P1 P2 P3 P4 P5 P6 P7 P8 P9
-all-right = tt
+-- every row of the table holds: of the rows laid out, with their extent, and of the answer's bytes
+rows-right : map (λ (c : Case). laid (labelJob (c .variant))) table ≡ map (λ (c : Case). given (c .extent ∷ [], c .expected)) table
+unfolding computed built shown laid table P1 P2 P3 P4 P5 P6 P7 P8 P9
+rows-right = refl
+
+bytes-right : map (λ (c : Case). written (labelJob (c .variant))) table ≡ map (λ (c : Case). given (c .expected)) table
+unfolding computed built shown written table P1 P2 P3 P4 P5 P6 P7 P8 P9
+bytes-right = refl
+
+-- the label's lines as document 01 prints them, a cluster's first six numbers
+printed : map (λ (line : List ℕ). take 6 line) (P1 .expected)
+    ≡ (0 ∷ 3 ∷ 0x42c80000 ∷ 0x42480000 ∷ [])
+    ∷ (0 ∷ 0 ∷ 0 ∷ 0x41200000 ∷ 0x41300000 ∷ 0xc1e00000 ∷ [])
+    ∷ (1 ∷ 1 ∷ 0 ∷ 0x40800000 ∷ 0x40e00000 ∷ 0xc1880000 ∷ [])
+    ∷ (2 ∷ 2 ∷ 0 ∷ 0x41200000 ∷ 0x41200000 ∷ 0xc1200000 ∷ [])
+    ∷ (0 ∷ 0x00000000 ∷ 0x3f800000 ∷ 0x40000000 ∷ [])
+    ∷ (0 ∷ 0 ∷ 0x41e00000 ∷ [])
+    ∷ []
+unfolding computed shown P1
+printed = refl

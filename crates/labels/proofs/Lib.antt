@@ -3,5 +3,10 @@ pub mod Numbers
 pub mod Records
 pub mod AnswerLength
 pub mod Accepted
+pub mod Seen
 pub mod Jobs
 pub mod Label
+pub mod Refusals
+pub mod Traps
+pub mod NearLabel
+pub mod Constants

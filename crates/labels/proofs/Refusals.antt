@@ -1,0 +1,249 @@
+-- Refusals, as one table that is computed from the job's bytes: each number met by the smallest change of document 01's label, its float
+-- edges, and jobs with two causes, of which the earlier check is told. Assumes nothing.
+use Prim.Native.Nat.{ℕ}
+use mathlib.Core.Path.{_≡_, refl}
+use mathlib.Core.List.{List, [], _∷_, _++_, map, foldl}
+use lib.ListN.{take, set, replicate}
+use Rattle.labels.specs.Bytes.{bytes}
+use Rattle.labels.specs.Script.Tag.{tag}
+use Rattle.labels.specs.Layout.{layoutOf, numberOf}
+use Rattle.labels.specs.Compute.{computed}
+use Rattle.labels.proofs.Jobs.{plainVariant, labelJob, fontRow, letterRow, spanRow, plainSpan, chunkRow, jobRow, plainJob, built}
+
+-- ---- jobs
+
+withLetter : ℕ → List ℕ
+withLetter b = labelJob (plainVariant (tag "Latn") b)
+
+-- the label, whose answer is 228 bytes long, and the label with other bytes at some places
+label : List ℕ
+unfolding withLetter
+label = withLetter 0x3f800000
+
+changed : List (ℕ × ℕ) → List ℕ
+unfolding label
+changed edits = foldl (λ (bs : List ℕ) (e : ℕ × ℕ). set bs (e .0) (e .1)) label edits
+
+-- a job of chunks at the pen's start, and one with a chunk of some text and spans
+jobOf : List (List ℕ) → List ℕ
+jobOf chunks = plainJob [] [] chunks
+
+textJob : List ℕ → List (List ℕ) → List ℕ
+unfolding jobOf
+textJob text spans = jobOf (chunkRow 0 text spans ∷ [])
+
+-- a record of n + 4 bytes, all zero after its length field, which is right
+blank : ℕ → List ℕ
+blank n = bytes 4 n ++ replicate n 0
+
+-- a chunk whose last glyph, of cluster length 1, is replaced by one of length 2
+past-the-end : List ℕ
+past-the-end =
+    chunkRow 0 (65 ∷ 66 ∷ []) (plainSpan 0 1 (letterRow 1 0 1 ∷ letterRow 2 1 1 ∷ []) ∷ plainSpan 1 2 (letterRow 3 1 2 ∷ []) ∷ [])
+
+-- a full list of 1,024 glyphs, into which a second one is inserted
+full-list : List ℕ
+full-list =
+    chunkRow 0 (65 ∷ 66 ∷ []) (plainSpan 0 1 (replicate 1024 (letterRow 1 1 2)) ∷ plainSpan 1 2 (letterRow 2 1 1 ∷ letterRow 3 1 1 ∷ []) ∷ [])
+
+-- the label with text length 2, SpacingAndGlyphs, and no width
+no-width : List (ℕ × ℕ)
+no-width = (66, 1) ∷ (67, 0x40) ∷ (71, 1) ∷ (95, 0) ∷ (120, 0) ∷ (145, 0) ∷ []
+
+-- ---- the table: a job, the bytes lent, and the number that it meets (0: accepted)
+
+pub record Case : Type 0 where
+  pub job : List ℕ
+  pub lent : ℕ
+  pub number : ℕ
+
+numbers : List Case → List ℕ
+numbers cases = map (λ (c : Case). numberOf (layoutOf (c .job) (c .lent))) cases
+
+told : List Case → List ℕ
+told cases = map (λ (c : Case). c .number) cases
+
+plain : List ℕ → ℕ → Case
+plain job n = record { job = job; lent = 65536; number = n }
+
+-- 1 and 2: under 5 bytes, over 65,536 (which itself passes), a length field that is off; another version
+records : List Case
+unfolding plain label changed blank
+records =
+    plain [] 1
+    ∷ plain (take 4 label) 1
+    ∷ plain (take 152 label) 1
+    ∷ plain (label ++ (0 ∷ [])) 1
+    ∷ plain (blank 65533) 1
+    ∷ plain (blank 65532) 2
+    ∷ plain (changed ((4, 2) ∷ [])) 2
+    ∷ plain (changed ((4, 0) ∷ [])) 2
+    ∷ []
+
+records-told : numbers records ≡ told records
+unfolding computed built numbers told records
+records-told = refl
+
+-- 3: nothing after the version, and a byte too many. Each limit passes, and one more meets 3 (of a span's 1,024 glyphs see `later`)
+counts : List Case
+unfolding plain label changed textJob
+counts =
+    plain (bytes 4 1 ++ (1 ∷ [])) 3
+    ∷ plain (changed ((3, 150) ∷ []) ++ (0 ∷ [])) 3
+    ∷ plain (jobRow 0 (replicate 16 fontRow) [] [] []) 0
+    ∷ plain (jobRow 0 (replicate 17 fontRow) [] [] []) 3
+    ∷ plain (plainJob (replicate 4096 0) [] []) 0
+    ∷ plain (plainJob (replicate 4097 0) [] []) 3
+    ∷ plain (plainJob [] (replicate 4097 0) []) 3
+    ∷ plain (plainJob [] [] (replicate 16 (chunkRow 0 [] []))) 0
+    ∷ plain (plainJob [] [] (replicate 17 (chunkRow 0 [] []))) 3
+    ∷ plain (textJob (replicate 4096 65) []) 0
+    ∷ plain (textJob (replicate 4097 65) []) 3
+    ∷ plain (textJob [] (replicate 32 (plainSpan 0 0 []))) 0
+    ∷ plain (textJob [] (replicate 33 (plainSpan 0 0 []))) 3
+    ∷ plain (textJob [] (spanRow 0 0 0 0 0 0 0 (replicate 8 (bytes 5 0)) [] ∷ [])) 0
+    ∷ plain (textJob [] (spanRow 0 0 0 0 0 0 0 (replicate 9 (bytes 5 0)) [] ∷ [])) 3
+    ∷ plain (textJob (65 ∷ []) (plainSpan 0 1 (replicate 1025 (letterRow 1 0 1)) ∷ [])) 3
+    ∷ []
+
+counts-told : numbers counts ≡ told counts
+unfolding computed built numbers told counts
+counts-told = refl
+
+-- 4: writing mode 2; units per em 0; chunk flags 4, and x given with its flag clear; anchor 3; flow 1; span font 1; length flag 2; −0 with the length flag clear; adjust 2;
+-- baselines 12; decorations 8; cluster lengths 0 and 65 (64 passes); width ±65,536 (±65,535 pass); glyph fonts 1 and 255; orientation 2
+values : List Case
+unfolding plain label changed
+values =
+    plain (changed ((5, 2) ∷ [])) 4
+    ∷ plain (changed ((7, 0) ∷ [])) 4
+    ∷ plain (changed ((32, 4) ∷ [])) 4
+    ∷ plain (changed ((32, 2) ∷ [])) 4
+    ∷ plain (changed ((41, 3) ∷ [])) 4
+    ∷ plain (changed ((42, 1) ∷ [])) 4
+    ∷ plain (changed ((53, 1) ∷ [])) 4
+    ∷ plain (changed ((66, 2) ∷ [])) 4
+    ∷ plain (changed ((67, 0x80) ∷ [])) 4
+    ∷ plain (changed ((66, 1) ∷ (67, 0x80) ∷ [])) 0
+    ∷ plain (changed ((71, 2) ∷ [])) 4
+    ∷ plain (changed ((71, 1) ∷ [])) 0
+    ∷ plain (changed ((72, 12) ∷ [])) 4
+    ∷ plain (changed ((73, 12) ∷ [])) 4
+    ∷ plain (changed ((74, 8) ∷ [])) 4
+    ∷ plain (changed ((84, 0) ∷ [])) 4
+    ∷ plain (changed ((84, 65) ∷ [])) 4
+    ∷ plain (changed ((84, 64) ∷ [])) 0
+    ∷ plain (changed ((94, 1) ∷ (95, 0) ∷ [])) 4
+    ∷ plain (changed ((95, 255) ∷ (96, 255) ∷ [])) 0
+    ∷ plain (changed ((93, 255) ∷ (94, 255) ∷ (95, 0) ∷ (96, 0) ∷ [])) 4
+    ∷ plain (changed ((93, 255) ∷ (94, 255) ∷ (95, 0) ∷ (96, 1) ∷ [])) 0
+    ∷ plain (changed ((97, 1) ∷ [])) 4
+    ∷ plain (changed ((97, 255) ∷ [])) 4
+    ∷ plain (changed ((102, 2) ∷ [])) 4
+    ∷ []
+
+values-told : numbers values ≡ told values
+unfolding computed built numbers told values
+values-told = refl
+
+-- float edges: sizes 2 ^ -20 and 2 ^ 20 pass, of either sign, and so do both zeros; their neighbours outside meet 4, and so do infinity and NaN.
+-- A font size of 4,096 passes and the next above meets 4, 1/16 passes and the next below meets 4
+edges : List Case
+unfolding plain label changed withLetter
+edges =
+    plain (withLetter 0x35800000) 0
+    ∷ plain (withLetter 0x49800000) 0
+    ∷ plain (withLetter 0xb5800000) 0
+    ∷ plain (withLetter 0xc9800000) 0
+    ∷ plain (withLetter 0x80000000) 0
+    ∷ plain (withLetter 0x357fffff) 4
+    ∷ plain (withLetter 0x49800001) 4
+    ∷ plain (withLetter 0xb57fffff) 4
+    ∷ plain (withLetter 0xc9800001) 4
+    ∷ plain (withLetter 0x7f800000) 4
+    ∷ plain (withLetter 0x7fc00000) 4
+    ∷ plain (withLetter 1) 4
+    ∷ plain (changed ((54, 0x45) ∷ [])) 0
+    ∷ plain (changed ((54, 0x45) ∷ (57, 1) ∷ [])) 4
+    ∷ plain (changed ((54, 0x3d) ∷ [])) 0
+    ∷ plain (changed ((54, 0x3d) ∷ (55, 0x7f) ∷ (56, 0xff) ∷ (57, 0xff) ∷ [])) 4
+    ∷ plain (changed ((54, 0xc1) ∷ [])) 4
+    ∷ []
+
+edges-told : numbers edges ≡ told edges
+unfolding computed built numbers told edges
+edges-told = refl
+
+-- 5: a continuation byte first; surrogates, overlong forms and code points past U+10FFFF, which itself passes; a character cut short; a byte index inside a character,
+-- or equal to the text length. A text is tested where no span is
+texts : List Case
+unfolding plain label changed jobOf textJob
+texts =
+    plain (changed ((45, 0x80) ∷ [])) 5
+    ∷ plain (textJob (0xed ∷ 0xa0 ∷ 0x80 ∷ []) []) 5
+    ∷ plain (textJob (0xc0 ∷ 0x80 ∷ []) []) 5
+    ∷ plain (textJob (0xc1 ∷ 0xbf ∷ []) []) 5
+    ∷ plain (textJob (0xe0 ∷ 0x9f ∷ 0xbf ∷ []) []) 5
+    ∷ plain (textJob (0xf0 ∷ 0x8f ∷ 0xbf ∷ 0xbf ∷ []) []) 5
+    ∷ plain (textJob (0xf4 ∷ 0x90 ∷ 0x80 ∷ 0x80 ∷ []) []) 5
+    ∷ plain (textJob (0xf5 ∷ 0x80 ∷ 0x80 ∷ 0x80 ∷ []) []) 5
+    ∷ plain (textJob (0xf4 ∷ 0x8f ∷ 0xbf ∷ 0xbf ∷ []) []) 0
+    ∷ plain (textJob (0xed ∷ 0x9f ∷ 0xbf ∷ []) []) 0
+    ∷ plain (textJob (0xe2 ∷ 0x82 ∷ []) []) 5
+    ∷ plain (textJob (0xc3 ∷ 0xa9 ∷ []) (plainSpan 0 2 (letterRow 1 1 1 ∷ []) ∷ [])) 5
+    ∷ plain (changed ((83, 3) ∷ [])) 5
+    ∷ plain (changed ((83, 2) ∷ [])) 0
+    ∷ []
+
+texts-told : numbers texts ≡ told texts
+unfolding computed built numbers told texts
+texts-told = refl
+
+-- 6: end over the text length; start over end; start before the previous end. Empty spans pass
+spans : List Case
+unfolding plain label changed jobOf textJob
+spans =
+    plain (changed ((52, 4) ∷ [])) 6
+    ∷ plain (changed ((50, 3) ∷ (52, 2) ∷ [])) 6
+    ∷ plain (changed ((50, 3) ∷ [])) 0
+    ∷ plain (textJob (65 ∷ 66 ∷ 67 ∷ []) (plainSpan 0 2 [] ∷ plainSpan 1 3 [] ∷ [])) 6
+    ∷ plain (textJob (65 ∷ 66 ∷ 67 ∷ []) (plainSpan 0 2 [] ∷ plainSpan 2 2 [] ∷ plainSpan 2 3 [] ∷ [])) 0
+    ∷ []
+
+spans-told : numbers spans ≡ told spans
+unfolding computed built numbers told spans
+spans-told = refl
+
+-- 7, 8 and 9; 10 one byte short of the answer, and for a buffer of nothing
+later : List Case
+unfolding plain label changed jobOf past-the-end full-list no-width
+later =
+    plain (jobOf (past-the-end ∷ [])) 7
+    ∷ plain (jobOf (full-list ∷ [])) 8
+    ∷ plain (changed no-width) 9
+    ∷ record { job = label; lent = 228; number = 0 }
+    ∷ record { job = label; lent = 227; number = 10 }
+    ∷ record { job = label; lent = 0; number = 10 }
+    ∷ []
+
+later-told : numbers later ≡ told later
+unfolding computed built numbers told later
+later-told = refl
+
+-- two causes: the earlier check is told; of chunks, the earlier chunk's
+order : List Case
+unfolding plain label changed jobOf past-the-end no-width
+order =
+    plain (take 152 (changed ((4, 2) ∷ []))) 1
+    ∷ plain (changed ((4, 2) ∷ (6, 17) ∷ [])) 2
+    ∷ plain (changed ((5, 2) ∷ (31, 17) ∷ [])) 3
+    ∷ plain (changed ((5, 2) ∷ (45, 0x80) ∷ [])) 4
+    ∷ plain (changed ((45, 0x80) ∷ (52, 4) ∷ [])) 5
+    ∷ plain (changed ((52, 4) ∷ (66, 1) ∷ (67, 0x40) ∷ (71, 1) ∷ (95, 0) ∷ (120, 0) ∷ (145, 0) ∷ [])) 6
+    ∷ record { job = (jobOf (past-the-end ∷ [])); lent = 0; number = 7 }
+    ∷ record { job = (changed no-width); lent = 0; number = 9 }
+    ∷ []
+
+order-told : numbers order ≡ told order
+unfolding computed built numbers told order
+order-told = refl

@@ -1,0 +1,204 @@
+-- Document 01's traps, and other places where a slip is easy: each a job, and what is seen of its layout, computed from the job's bytes.
+-- (P2 is the trap of text length, P8 those of −0.) Assumes nothing.
+use Prim.Native.Nat.{ℕ}
+use mathlib.Core.Path.{_≡_, refl}
+use mathlib.Core.Bool.{Bool, true, false}
+use mathlib.Core.List.{List, [], _∷_, _++_, map, flatMap}
+use Rattle.labels.specs.Outcome.{Outcome, refused, given}
+use Rattle.labels.specs.Bytes.{bytes}
+use Rattle.labels.specs.Script.{scriptSupportsLetterSpacing, isWordSeparatorAt}
+use Rattle.labels.specs.Script.Tag.{tag}
+use Rattle.labels.specs.Answer.{GlyphRow, ClusterRow, SpanRow, ChunkRow}
+use Rattle.labels.specs.Layout.{layoutRows}
+use Rattle.labels.specs.Compute.{computed}
+use Rattle.labels.proofs.Seen.{bits, whole, below, -0, shown}
+use Rattle.labels.proofs.Jobs.{fontRow, glyphRow, wideRow, letterRow, spanRow, plainSpan, chunkRow, jobRow, plainJob, built}
+
+-- ---- what is seen of a layout
+
+laidOut : Outcome (List ChunkRow) → List ChunkRow
+laidOut (refused n) = []
+laidOut (given cs) = cs
+
+chunksIn : {A : Type 0} → (ChunkRow → A) → List ℕ → List A
+unfolding laidOut
+chunksIn f job = map f (laidOut (layoutRows job))
+
+clustersIn : {A : Type 0} → (ClusterRow → A) → List ℕ → List A
+unfolding laidOut
+clustersIn f job = map f (flatMap (λ (c : ChunkRow). c .clusters) (laidOut (layoutRows job)))
+
+spansIn : {A : Type 0} → (SpanRow → A) → List ℕ → List A
+unfolding laidOut
+spansIn f job = map f (flatMap (λ (c : ChunkRow). c .spans) (laidOut (layoutRows job)))
+
+-- a cluster's glyph ids, flags, width, advance and shift x
+idsOf : ClusterRow → List ℕ
+idsOf c = map (λ (g : GlyphRow). g .id) (c .glyphs)
+
+lineOf : ClusterRow → List ℕ
+lineOf c = c .flags ∷ bits (c .width) ∷ bits (c .advance) ∷ bits (c .x) ∷ []
+
+glyphOffset : GlyphRow → ℕ × ℕ
+glyphOffset g = (bits (g .x), bits (g .y))
+
+offsetsOf : ClusterRow → List (ℕ × ℕ)
+unfolding glyphOffset
+offsetsOf c = map glyphOffset (c .glyphs)
+
+scaleOf : ClusterRow → ℕ × ℕ
+scaleOf c = (c .flags, bits (c .scale))
+
+angleOf : ClusterRow → ℕ × ℕ
+angleOf c = (c .flags, bits (c .angle))
+
+penOf : ChunkRow → ℕ × ℕ
+penOf c = (bits (c .penX), bits (c .penY))
+
+unfoldable seen : Unit {0}
+unfolding laidOut chunksIn clustersIn spansIn idsOf lineOf offsetsOf scaleOf angleOf penOf shown
+seen = tt
+
+-- ---- jobs
+
+-- the text "ABCD", anchored at its start, with some spans
+abcd : List (List ℕ) → List ℕ
+abcd spans = plainJob [] [] (chunkRow 0 (65 ∷ 66 ∷ 67 ∷ 68 ∷ []) spans ∷ [])
+
+-- one list merged into another: the first span has no text, the second has it all
+merge : List (List ℕ) → List (List ℕ) → List ℕ
+unfolding abcd
+merge first second = abcd (plainSpan 0 0 first ∷ plainSpan 0 4 second ∷ [])
+
+-- ---- step 1
+
+-- a glyph of cluster length 3 replaces one of length 2: two glyphs go, and not one
+removal : clustersIn idsOf (merge (letterRow 1 0 2 ∷ letterRow 2 1 1 ∷ letterRow 3 2 1 ∷ letterRow 4 3 1 ∷ []) (letterRow 5 0 3 ∷ []))
+    ≡ (5 ∷ []) ∷ (4 ∷ []) ∷ []
+unfolding computed built seen merge
+removal = refl
+
+-- one of length 2 replaces one of length 4: three glyphs follow it, and not two
+insertion : clustersIn idsOf (merge (letterRow 1 0 4 ∷ []) (letterRow 5 0 2 ∷ letterRow 6 1 1 ∷ letterRow 7 2 1 ∷ letterRow 8 3 1 ∷ []))
+    ≡ (5 ∷ []) ∷ (6 ∷ []) ∷ (7 ∷ []) ∷ (8 ∷ []) ∷ []
+unfolding computed built seen merge
+insertion = refl
+
+-- a place that was replaced is not replaced again, though the byte index stands further on too
+once : clustersIn idsOf (merge (letterRow 1 0 1 ∷ letterRow 2 0 1 ∷ []) (letterRow 5 0 1 ∷ letterRow 6 0 1 ∷ [])) ≡ (5 ∷ 2 ∷ []) ∷ []
+unfolding computed built seen merge
+once = refl
+
+-- remembered places are not moved: 5 takes place 1 and is removed with 6 at place 0, so place 1, where index 0 stands by then, is skipped
+remembered : clustersIn idsOf (merge (letterRow 1 2 1 ∷ letterRow 2 1 1 ∷ letterRow 3 0 1 ∷ letterRow 4 3 1 ∷ []) (letterRow 5 1 1 ∷ letterRow 6 2 2 ∷ letterRow 7 0 1 ∷ []))
+    ≡ (6 ∷ []) ∷ (3 ∷ []) ∷ (4 ∷ []) ∷ []
+unfolding computed built seen merge
+remembered = refl
+
+-- ---- step 2
+
+-- two glyphs of one byte index: the width is the largest, the advance the sum
+twoGlyphs : List ℕ
+unfolding abcd
+twoGlyphs = abcd (plainSpan 0 4 (glyphRow 1 0 1 3 0 1280 (tag "Latn") 0 ∷ glyphRow 2 0 1 0xfffffffc 5 512 (tag "Latn") 0 ∷ []) ∷ [])
+
+largest : clustersIn lineOf twoGlyphs ≡ (0 ∷ whole 10 ∷ whole 14 ∷ 0 ∷ []) ∷ []
+unfolding computed built seen twoGlyphs
+largest = refl
+
+-- dy 0 gives +0, since the whole number is negated; x is the earlier widths plus dx
+offsets : clustersIn offsetsOf twoGlyphs
+    ≡ ((whole 3, 0) ∷ (whole 1276, below 5) ∷ []) ∷ []
+unfolding computed built seen twoGlyphs
+offsets = refl
+
+-- ---- steps 4 and 5
+
+-- the sixteen tags, and three others
+tags : map scriptSupportsLetterSpacing
+    (0x41726162 ∷ 0x53797263 ∷ 0x4e6b6f6f ∷ 0x4d616e69 ∷ 0x50686c70 ∷ 0x4d616e64 ∷ 0x4d6f6e67 ∷ 0x50686167 ∷ 0x44657661 ∷ 0x42656e67
+    ∷ 0x47757275 ∷ 0x4d6f6469 ∷ 0x53687264 ∷ 0x53796c6f ∷ 0x54697268 ∷ 0x4f67616d ∷ tag "Latn" ∷ tag "arab" ∷ tag "Rohg" ∷ [])
+    ≡ false ∷ false ∷ false ∷ false ∷ false ∷ false ∷ false ∷ false ∷ false ∷ false ∷ false ∷ false ∷ false ∷ false ∷ false ∷ false ∷ true
+    ∷ true ∷ true ∷ []
+unfolding computed
+tags = refl
+
+-- the word separators in UTF-8, and three that are none: U+2003, U+3000, U+1091E
+separators : map (λ (text : List ℕ). isWordSeparatorAt text 0)
+    ((0x20 ∷ []) ∷ (0xc2 ∷ 0xa0 ∷ []) ∷ (0xe1 ∷ 0x8d ∷ 0xa1 ∷ []) ∷ (0xf0 ∷ 0x90 ∷ 0x84 ∷ 0x80 ∷ []) ∷ (0xf0 ∷ 0x90 ∷ 0x84 ∷ 0x81 ∷ [])
+    ∷ (0xf0 ∷ 0x90 ∷ 0x8e ∷ 0x9f ∷ []) ∷ (0xf0 ∷ 0x90 ∷ 0xa4 ∷ 0x9f ∷ []) ∷ (0xe2 ∷ 0x80 ∷ 0x83 ∷ []) ∷ (0xe3 ∷ 0x80 ∷ 0x80 ∷ [])
+    ∷ (0xf0 ∷ 0x90 ∷ 0xa4 ∷ 0x9e ∷ []) ∷ [])
+    ≡ true ∷ true ∷ true ∷ true ∷ true ∷ true ∷ true ∷ false ∷ false ∷ false ∷ []
+unfolding computed
+separators = refl
+
+-- the last cluster gets no spacing and still collapses; so does one whose own span has none, where another span's is not zero
+collapsing : clustersIn lineOf
+    (abcd (spanRow 0 1 (whole 1) 0 0 0 0 [] (letterRow 1 0 1 ∷ wideRow 2 1 1 0 ∷ letterRow 3 2 1 ∷ wideRow 4 3 1 0 ∷ []) ∷ plainSpan 1 4 [] ∷ []))
+    ≡ (0 ∷ whole 10 ∷ whole 11 ∷ 0 ∷ []) ∷ (32 ∷ 0 ∷ 0 ∷ whole 11 ∷ []) ∷ (0 ∷ whole 10 ∷ whole 10 ∷ whole 11 ∷ [])
+    ∷ (32 ∷ 0 ∷ 0 ∷ whole 21 ∷ []) ∷ []
+unfolding computed built seen abcd
+collapsing = refl
+
+-- ---- step 6
+
+-- of three clusters with byte indexes 0, 1, 0 two take part: (54 − 20) ÷ 1 is added to their widths, and the third keeps its advance
+first-of-index : clustersIn lineOf (abcd (spanRow 0 4 0 0 1 (whole 54) 0 [] (letterRow 1 0 1 ∷ letterRow 2 1 1 ∷ letterRow 3 0 1 ∷ []) ∷ []))
+    ≡ (0 ∷ whole 10 ∷ whole 44 ∷ 0 ∷ []) ∷ (0 ∷ whole 10 ∷ whole 44 ∷ whole 44 ∷ []) ∷ (0 ∷ whole 10 ∷ whole 10 ∷ whole 88 ∷ []) ∷ []
+unfolding computed built seen abcd
+first-of-index = refl
+
+-- a width of 1 scaled by its text length: 0.001 counts, the float below it does not, nor does −1
+factors : map (λ (target : ℕ). clustersIn scaleOf (abcd (spanRow 0 4 0 0 1 target 1 [] (wideRow 1 0 1 128 ∷ []) ∷ [])))
+    (0x3a83126f ∷ 0x3a83126e ∷ below 1 ∷ [])
+    ≡ ((8, 0x3a83126f) ∷ []) ∷ ((0, 0) ∷ []) ∷ ((0, 0) ∷ []) ∷ []
+unfolding computed built seen abcd
+factors = refl
+
+-- ---- step 7
+
+-- x is (first shift − left) + anchor, in that order: here the other order gives −10.0078125 instead of −10
+anchoring : clustersIn (λ (c : ClusterRow). bits (c .x))
+    (plainJob (0x49800000 ∷ 0xc9800000 ∷ []) [] (chunkRow 2 (65 ∷ 66 ∷ []) (plainSpan 0 2 (wideRow 1 0 1 1281 ∷ letterRow 2 1 1 ∷ []) ∷ []) ∷ []))
+    ≡ 0x497fff60 ∷ 0x3c000000 ∷ []
+unfolding computed built seen
+anchoring = refl
+
+-- right to left, shifts accumulate in text order: C and B take B's 3, A none
+right-to-left : clustersIn lineOf
+    (plainJob (0 ∷ whole 3 ∷ []) [] (chunkRow 0 (65 ∷ 66 ∷ 67 ∷ []) (plainSpan 0 3 (letterRow 3 2 1 ∷ letterRow 2 1 1 ∷ letterRow 1 0 1 ∷ []) ∷ []) ∷ []))
+    ≡ (0 ∷ whole 10 ∷ whole 10 ∷ 0 ∷ []) ∷ (0 ∷ whole 10 ∷ whole 10 ∷ whole 10 ∷ []) ∷ (1 ∷ whole 10 ∷ whole 10 ∷ whole 17 ∷ []) ∷ []
+unfolding computed built seen
+right-to-left = refl
+
+-- a rotated cluster is marked, also the first; −0 is no rotation
+rotation : clustersIn angleOf
+    (plainJob [] (whole 90 ∷ -0 ∷ []) (chunkRow 0 (65 ∷ 66 ∷ []) (plainSpan 0 2 (letterRow 1 0 1 ∷ letterRow 2 1 1 ∷ []) ∷ []) ∷ []))
+    ≡ (17, whole 90) ∷ (0, 0) ∷ []
+unfolding computed built seen
+rotation = refl
+
+-- ---- step 8
+
+-- baseline shifts are summed from the last: 2 ^ -4 twice, then 2 ^ 20. From the first, the small ones would be lost
+baselines : spansIn (λ (s : SpanRow). bits (s .baseline))
+    (abcd (spanRow 0 4 0 0 0 0 0 ((3 ∷ bytes 4 0x49800000) ∷ (3 ∷ bytes 4 0x3d800000) ∷ (3 ∷ bytes 4 0x3d800000) ∷ []) (letterRow 1 0 1 ∷ []) ∷ []))
+    ≡ 0xc9800001 ∷ []
+unfolding computed built seen abcd
+baselines = refl
+
+-- ---- pen and origin
+
+-- the pen after two chunks at (100, 50) with one letter each: left to right, and swapped top to bottom, where 100 + −0 is 100
+pens : map (λ (mode : ℕ). chunksIn penOf (jobRow mode (fontRow ∷ []) [] [] (chunkRow 0 (65 ∷ []) (plainSpan 0 1 (letterRow 1 0 1 ∷ []) ∷ []) ∷ chunkRow 0 (66 ∷ []) [] ∷ []))) (0 ∷ 1 ∷ [])
+    ≡ ((whole 110, whole 50) ∷ (whole 110, whole 50) ∷ []) ∷ ((whole 100, whole 60) ∷ (whole 100, whole 60) ∷ []) ∷ []
+unfolding computed built seen
+pens = refl
+
+-- characters are numbered over all chunks, an empty one's too: the third chunk's letter is the character of dx 3
+numbering : clustersIn lineOf
+    (plainJob (0 ∷ 0 ∷ whole 3 ∷ []) []
+    (chunkRow 0 (65 ∷ []) (plainSpan 0 1 (letterRow 1 0 1 ∷ []) ∷ []) ∷ chunkRow 0 (66 ∷ []) [] ∷ chunkRow 0 (67 ∷ []) (plainSpan 0 1 (letterRow 2 0 1 ∷ []) ∷ []) ∷ []))
+    ≡ (0 ∷ whole 10 ∷ whole 10 ∷ 0 ∷ []) ∷ (0 ∷ whole 10 ∷ whole 10 ∷ whole 3 ∷ []) ∷ []
+unfolding computed built seen
+numbering = refl
