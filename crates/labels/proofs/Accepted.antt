@@ -9,7 +9,7 @@ use lib.Dec.{T, eqb, eqb→eq}
 use lib.Ieee.{Float, binary32, fits, ofBits, toBits, eq}
 use lib.Ieee.Bits.{ofBits-fits, ofBits-toBits}
 use lib.Ieee.Fits.{and-l, and-r, and-i}
-use Rattle.labels.specs.Outcome.{Outcome, refused, given}
+use Rattle.labels.specs.Outcome.{Outcome, refused, given, andThen}
 use Rattle.labels.specs.Lists.{all, every}
 use Rattle.labels.specs.Bytes.{float, rows}
 use Rattle.labels.specs.Single.{isZero, isZeroBits}
@@ -63,32 +63,39 @@ pub record Accepted (bs : List ℕ) (job : Job) : Type 0 where
   pub spans : T (all spansOk (job .chunks))
 
 -- no check is the first that fails
-passed : {A : Type 0} (cs : List Check) (bs : List ℕ) (a b : A) → firstFailing cs bs (given a) ≡ given b → (a ≡ b) × T (all (λ c. c .passes bs) cs)
+passed : (cs : List Check) (bs : List ℕ) → firstFailing cs bs ≡ given tt → T (all (λ (c : Check). c .passes bs) cs)
 unfolding firstFailing all
-passed [] bs a b e = (cc, tt)
-passed {A} (c ∷ cs) bs a b e = go (c .passes bs) refl (passed cs bs a b)
+passed [] bs e = tt
+passed (c ∷ cs) bs e = go (c .passes bs) refl (passed cs bs)
   where
-    go : (p : Bool) → c .passes bs ≡ p → (firstFailing cs bs (given a) ≡ given b → (a ≡ b) × T (all (λ c. c .passes bs) cs)) → (a ≡ b) × T (c .passes bs && all (λ c. c .passes bs) cs)
-    go true h rest = rw h (rest (rw h at e))
-    go false h rest =
-        let impossible : refused (c .number) ≡ given b = rw h at e in
+    go : (p : Bool) → c .passes bs ≡ p → (firstFailing cs bs ≡ given tt → T (all (λ (c : Check). c .passes bs) cs)) → T (c .passes bs && all (λ (c : Check). c .passes bs) cs)
+    go true h others = rw h (others (rw h at e))
+    go false h others =
+        let impossible : refused (c .number) ≡ given tt = rw h at e in
         let z : _≡_ {A = ℕ} 0 1 = cc in
         absurd (omega arith)
+
+-- a step that gives a value was reached
+reached : {A B : Type 0} (o : Outcome A) (f : A → Outcome B) (b : B) → andThen o f ≡ given b → (a : A) × (o ≡ given a) × (f a ≡ given b)
+unfolding andThen
+reached (refused n) f b e = let z : _≡_ {A = ℕ} 0 1 = cc in absurd (omega arith)
+reached (given a) f b e = (a, refl, e)
 
 pub accepted : (bs : List ℕ) (job : Job) → checked bs ≡ given job → Accepted bs job
 unfolding checked checks
 accepted bs job e =
-    let p = passed checks bs (jobOf (afterVersion bs)) job e in
-    let from-2 = rest (all-of (λ (c : Check). c .passes bs) checks (p .1)) in
-    let from-4 = rest (rest from-2) in
+    let r = reached (firstFailing checks bs) (λ (u : Unit {0}). given (jobOf (afterVersion bs))) job e in
+    let is : jobOf (afterVersion bs) ≡ job = cc (r .2) in
+    let from-1 = all-of (λ (c : Check). c .passes bs) checks (passed checks bs (r .1)) in
+    let from-4 = rest (rest (rest from-1)) in
     record {
-      is = p .0;
-      size = first (all-of (λ (c : Check). c .passes bs) checks (p .1));
-      version = first from-2;
-      shape = first (rest from-2);
-      values = subst (λ (j : Job). T (valuesOk j)) (p .0) (first from-4);
-      text = subst (λ (j : Job). T (all textOk (j .chunks))) (p .0) (first (rest from-4));
-      spans = subst (λ (j : Job). T (all spansOk (j .chunks))) (p .0) (first (rest (rest from-4)));
+      is = is;
+      size = first from-1;
+      version = first (rest from-1);
+      shape = first (rest (rest from-1));
+      values = subst (λ (j : Job). T (valuesOk j)) is (first from-4);
+      text = subst (λ (j : Job). T (all textOk (j .chunks))) is (first (rest from-4));
+      spans = subst (λ (j : Job). T (all spansOk (j .chunks))) is (first (rest (rest from-4)));
     }
 
 -- ---- every float of a job is in range

@@ -6,7 +6,7 @@ use lib.ListN.{getD, drop, length}
 use lib.Dec.{leb, ltb, eqb}
 use lib.IntN.{ℤ, natAbs}
 use lib.Ieee.{Float, neg}
-use Rattle.labels.specs.Outcome.{Outcome, refused, given}
+use Rattle.labels.specs.Outcome.{Outcome, refused, given, andThen}
 use Rattle.labels.specs.Lists.{all, every, isEmpty}
 use Rattle.labels.specs.Bytes.{be}
 use Rattle.labels.specs.Single.{smallest, largest, smallestSize, largestSize, isZero, between, isZeroBits}
@@ -141,11 +141,11 @@ checks =
     ∷ record { number = 6; passes = λ bs. all spansOk (jobOf (afterVersion bs) .chunks) }
     ∷ []
 
--- the number of the first check that the record does not pass, with what is given where it passes them all
-unfoldable pub firstFailing : {A : Type 0} → List Check → List ℕ → Outcome A → Outcome A
-firstFailing [] bs passed = passed
-firstFailing (c ∷ cs) bs passed = let rest = firstFailing cs bs passed in cond (c .passes bs) rest (refused (c .number))
+-- refused with the number of the first check that the record does not pass
+unfoldable pub firstFailing : List Check → List ℕ → Outcome (Unit {0})
+firstFailing [] bs = given tt
+firstFailing (c ∷ cs) bs = let rest = firstFailing cs bs in cond (c .passes bs) rest (refused (c .number))
 
 -- the job that the bytes hold, or the refusal that its own fields earn
 unfoldable pub checked : List ℕ → Outcome Job
-checked bs = let job = jobOf (afterVersion bs) in firstFailing checks bs (given job)
+checked bs = andThen (firstFailing checks bs) (λ (passed : Unit {0}). given (jobOf (afterVersion bs)))

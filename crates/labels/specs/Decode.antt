@@ -100,25 +100,33 @@ partsOf bs =
 
 -- ---- a chunk: 11 bytes, the text length and text, the span count and spans
 
+-- where the text length stands
+abbrev pub textAt : ℕ
+textAt = 11
+
 unfoldable pub textSize : List ℕ → ℕ
-textSize bs = be 2 (drop 11 bs)
+textSize bs = be 2 (drop textAt bs)
+
+-- where the span count stands
+unfoldable pub spansAt : List ℕ → ℕ
+spansAt bs = textAt + 2 + textSize bs
 
 unfoldable pub spanCount : List ℕ → ℕ
-spanCount bs = be 1 (drop (13 + textSize bs) bs)
+spanCount bs = be 1 (drop (spansAt bs) bs)
 
 -- the bytes from the first span on
 unfoldable pub spanBytes : List ℕ → List ℕ
-spanBytes bs = drop (14 + textSize bs) bs
+spanBytes bs = drop (spansAt bs + 1) bs
 
 unfoldable pub chunkSize : List ℕ → ℕ
-chunkSize bs = 14 + textSize bs + sizes spanSize (spanCount bs) (spanBytes bs)
+chunkSize bs = spansAt bs + 1 + sizes spanSize (spanCount bs) (spanBytes bs)
 
 unfoldable pub chunkFits : List ℕ → Bool
 chunkFits bs =
     every
     (leb (textSize bs) (limits .text)
     ∷ leb (spanCount bs) (limits .spans)
-    ∷ leb (14 + textSize bs) (length bs)
+    ∷ leb (spansAt bs + 1) (length bs)
     ∷ each spanSize spanFits (spanCount bs) (spanBytes bs)
     ∷ [])
 
@@ -130,7 +138,7 @@ chunkOf bs =
       y = float (drop 5 bs);
       anchor = be 1 (drop 9 bs);
       flow = be 1 (drop 10 bs);
-      text = take (textSize bs) (drop 13 bs);
+      text = take (textSize bs) (drop (textAt + 2) bs);
       parts = rows spanSize partsOf (spanCount bs) (spanBytes bs);
     }
 

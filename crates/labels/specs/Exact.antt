@@ -1,8 +1,8 @@
 -- The exact layout of document 01: steps 1 and 2's choices, and steps 4 to 7 on fractions. It is fed the job alone. And demand 3. Definitions only.
 use Prim.Native.Nat.{ℕ, _+_, _/_, _%_, _^_, _<_}
 use mathlib.Core.Path.{_≡_}
-use mathlib.Core.Bool.{Bool, true, false, cond, _&&_}
-use mathlib.Core.List.{List, [], _∷_, map, foldl}
+use mathlib.Core.Bool.{Bool, cond, _&&_}
+use mathlib.Core.List.{List, [], _∷_, foldl, zipWith}
 use lib.ListN.{length, getD}
 use lib.Dec.{T, eqb}
 use lib.IntN.{pos}
@@ -10,7 +10,6 @@ use lib.Ieee.{Float}
 use lib.Ieee.Scale.{finite as isFinite}
 use Rattle.rounding.specs.Fraction.{Frac, 0ᵠ, _+ᵠ_, _-ᵠ_, _·ᵠ_, _/ᵠ_, negᵠ, absᵠ, ltᵠ, leᵠ, valueOf}
 use Rattle.labels.specs.Outcome.{Outcome, refused, given}
-use Rattle.labels.specs.Lists.{atOr}
 use Rattle.labels.specs.Single.{+0}
 use Rattle.labels.specs.Job.{Job, Chunk, Span, Glyph, Font, spansOf, spanAt, hasLength, adjustSpacing}
 use Rattle.labels.specs.Utf8.{characters}
@@ -66,13 +65,13 @@ exact =
       collapse = λ c. record { group = c .group; collapsed = c .collapsed; width = 0ᵠ; advance = 0ᵠ; spacing = c .spacing; x = c .x; y = c .y };
     }
 
--- step 2: a group's cluster, and whether the rounded steps collapse it
-unfoldable pub exactCluster : List Font → List Span → Group → Bool → ExactCluster
-exactCluster fonts spans g collapsed =
+-- step 2: a group's cluster, beside the one that the rounded steps 2 to 4 make of it
+unfoldable pub exactCluster : List Font → List Span → Group → Cluster → ExactCluster
+exactCluster fonts spans g c =
     let size = spanAt spans (g .span) .size in
     record {
       group = g;
-      collapsed = collapsed;
+      collapsed = c .collapsed;
       width = maxAdvance exact fonts size (g .glyphs);
       advance = sumAdvance exact fonts size (g .glyphs);
       spacing = 0ᵠ;
@@ -80,14 +79,9 @@ exactCluster fonts spans g collapsed =
       y = 0ᵠ;
     }
 
--- a cluster for each group, beside the one that the rounded steps 2 to 4 make of it
-unfoldable pub exactClusters : List Font → List Span → List Group → List Cluster → List ExactCluster
-exactClusters fonts spans [] cs = []
-exactClusters fonts spans (g ∷ gs) [] = exactCluster fonts spans g false ∷ exactClusters fonts spans gs []
-exactClusters fonts spans (g ∷ gs) (c ∷ cs) = exactCluster fonts spans g (c .collapsed) ∷ exactClusters fonts spans gs cs
-
+-- a cluster for each group: there are as many of the others (proofs/AsMany)
 unfoldable pub formedExactly : Job → Chunk → List Glyph → List ExactCluster
-formedExactly job c gs = exactClusters (job .fonts) (spansOf c) (groups (spansOf c) gs) (collapsedClusters job c gs)
+formedExactly job c gs = zipWith (exactCluster (job .fonts) (spansOf c)) (groups (spansOf c) gs) (collapsedClusters job c gs)
 
 -- step 6: of the two ways of adjusting only Spacing changes an advance
 unfoldable pub adjustSpanExactly : List ExactCluster → Span → List ExactCluster

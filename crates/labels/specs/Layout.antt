@@ -116,8 +116,8 @@ pub record Progress : Type 0 where
   pub offset : ℕ
   pub chunks : List LaidChunk
 
-abbrev pub start : Progress
-start = record { pen = record { x = +0; y = +0 }; offset = 0; chunks = [] }
+abbrev pub beginning : Progress
+beginning = record { pen = record { x = +0; y = +0 }; offset = 0; chunks = [] }
 
 -- the chunk's x and y, each taken from the pen where its flag is clear
 abbrev pub originOf : Point → Chunk → Point
@@ -153,7 +153,7 @@ layoutChunk job (given st) c =
     andThen (adjustedClusters job c gs) (λ (cs : List Cluster). given (placeChunk job st c gs cs)))
 
 unfoldable pub layoutJob : Job → Outcome (List LaidChunk)
-layoutJob job = andThen (foldl (layoutChunk job) (given start) (job .chunks)) (λ (st : Progress). given (st .chunks))
+layoutJob job = andThen (foldl (layoutChunk job) (given beginning) (job .chunks)) (λ (st : Progress). given (st .chunks))
 
 -- ---- the call
 

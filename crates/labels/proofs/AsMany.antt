@@ -1,0 +1,41 @@
+-- Steps 2 to 4 make one cluster of each group, so that the exact layout has a cluster for each too. Assumes nothing.
+use Prim.Native.Nat.{ℕ, suc, _-_}
+use mathlib.Core.Path.{_≡_, refl, ap, _∙_}
+use mathlib.Core.Bool.{Bool, true, false, not, cond}
+use mathlib.Core.List.{List, [], _∷_, map}
+use lib.ListN.{length, length-map}
+use lib.Dec.{eqb}
+use Rattle.labels.specs.Lists.{scan, any}
+use Rattle.labels.specs.Single.{isZero}
+use Rattle.labels.specs.Job.{Job, Chunk, Span, Glyph, spansOf, topToBottom}
+use Rattle.labels.specs.Group.{groups}
+use Rattle.labels.specs.Kind.{Kind}
+use Rattle.labels.specs.Spacing.{applyLetterSpacing, nextLetterSpaced}
+use Rattle.labels.specs.Cluster.{Cluster, rounded, formGlyphClusters, turned, applyWritingMode}
+use Rattle.labels.specs.Layout.{collapsedClusters}
+
+pub length-scan : {A S : Type 0} (next : S → A → S) (f : S → A → A) (s : S) (xs : List A) → length (scan next f s xs) ≡ length xs
+unfolding scan
+length-scan next f s [] = refl
+length-scan next f s (x ∷ xs) = ap suc (length-scan next f (next s x) xs)
+
+pub length-cond : {A : Type 0} (b : Bool) (xs ys : List A) (n : ℕ) → length xs ≡ n → length ys ≡ n → length (cond b xs ys) ≡ n
+length-cond true xs ys n p q = p
+length-cond false xs ys n p q = q
+
+pub length-letter : (K : Kind) (spans : List Span) (cs : List (K .Cluster)) → length (applyLetterSpacing K spans cs) ≡ length cs
+unfolding applyLetterSpacing
+length-letter K spans cs =
+    length-cond (any (λ (s : Span). not (isZero (s .letter))) spans) _ _ (length cs)
+    (length-scan (λ (left : ℕ) (c : K .Cluster). left - 1) (nextLetterSpaced K spans) (length cs) cs) refl
+
+pub length-writing : (mode : ℕ) (cs : List Cluster) → length (applyWritingMode mode cs) ≡ length cs
+unfolding applyWritingMode
+length-writing mode cs = length-cond (eqb mode topToBottom) (map turned cs) cs (length cs) (length-map cs turned) refl
+
+pub as-many : (job : Job) (c : Chunk) (gs : List Glyph) → length (collapsedClusters job c gs) ≡ length (groups (spansOf c) gs)
+unfolding collapsedClusters
+as-many job c gs =
+    let formed = map (formGlyphClusters (job .fonts) (spansOf c)) (groups (spansOf c) gs) in
+    length-letter rounded (spansOf c) (applyWritingMode (job .mode) formed) ∙ length-writing (job .mode) formed
+    ∙ length-map (groups (spansOf c) gs) (formGlyphClusters (job .fonts) (spansOf c))
