@@ -1,21 +1,21 @@
 -- What a job that is accepted by checks 1 to 6 has: each check passes, and every float is in range. Assumes nothing.
 use Prim.Native.Nat.{ℕ, zero, suc}
 use mathlib.Core.Path.{_≡_, refl, sym, ap, _∙_, subst}
-use mathlib.Core.Bool.{Bool, true, false, not, cond, _&&_, _||_}
+use mathlib.Core.Bool.{Bool, true, false, _&&_}
 use mathlib.Core.List.{List, [], _∷_}
 use native.Mathlib.Omega.{arith}
 use lib.ListN.{length, drop}
-use lib.Dec.{T, eqb, eqb→eq}
-use lib.Ieee.{Float, binary32, fits, ofBits, toBits, eq}
+use lib.Dec.{T, eqb→eq}
+use lib.Ieee.{Float, binary32, fits, ofBits, eq}
 use lib.Ieee.Bits.{ofBits-fits, ofBits-toBits}
-use lib.Ieee.Fits.{and-l, and-r, and-i}
+use lib.Ieee.Fits.{and-l, and-r}
 use Rattle.labels.specs.Outcome.{Outcome, refused, given, andThen}
 use Rattle.labels.specs.Lists.{all, every}
 use Rattle.labels.specs.Bytes.{float, rows}
-use Rattle.labels.specs.Single.{isZero, isZeroBits}
-use Rattle.labels.specs.Job.{Job, Chunk, Span, SpanParts, Shift, hasX, hasY, hasLength, noFont}
+use Rattle.labels.specs.Single.{isZeroBits}
+use Rattle.labels.specs.Job.{Job, Chunk, Span, SpanParts, Shift, hasX, hasY, hasLength}
 use Rattle.labels.specs.Decode.{shaped, jobOf, chunkOf, partsOf, spanOf, shiftOf, listOf}
-use Rattle.labels.specs.Check.{Check, checks, firstFailing, checked, afterVersion, lengthOk, versionOk, valuesOk, chunkOk, partsOk, spanOk, shiftOk, sizeOk, floatOk, flaggedOk, textOk, spansOk, fontOk, glyphOk}
+use Rattle.labels.specs.Check.{Check, checks, firstFailing, checked, afterVersion, lengthOk, versionOk, valuesOk, chunkOk, partsOk, spanOk, shiftOk, sizeOk, floatOk, flaggedOk, textOk, spansOk}
 
 -- ---- all of a list
 

@@ -59,21 +59,21 @@ pub record Case : Type 0 where
 -- a chunk's: index, clusters, pen; a cluster's: index, byte index, flags, width, advance, shift x, scale, nudge, ascent, shift y;
 -- a span's: index, baseline shift, thickness, under offset; a run's: span, first cluster, width
 
+-- the label's lines, with some baseline shift
+plainLines : ℕ → List (List ℕ)
+plainLines baseline =
+    (0 ∷ 3 ∷ whole 100 ∷ whole 50 ∷ [])
+    ∷ (0 ∷ 0 ∷ 0 ∷ whole 10 ∷ whole 11 ∷ below 28 ∷ 0 ∷ 0 ∷ whole 12 ∷ 0 ∷ [])
+    ∷ (1 ∷ 1 ∷ 0 ∷ whole 4 ∷ whole 7 ∷ below 17 ∷ 0 ∷ 0 ∷ whole 12 ∷ 0 ∷ [])
+    ∷ (2 ∷ 2 ∷ 0 ∷ whole 10 ∷ whole 10 ∷ below 10 ∷ 0 ∷ 0 ∷ whole 12 ∷ 0 ∷ [])
+    ∷ (0 ∷ baseline ∷ whole 1 ∷ whole 2 ∷ [])
+    ∷ (0 ∷ 0 ∷ whole 28 ∷ [])
+    ∷ []
+
 -- the label itself
 P1 : Case
-P1 =
-    record {
-      variant = plainVariant (tag "Latn") (whole 1);
-      extent = whole 28;
-      expected =
-          (0 ∷ 3 ∷ whole 100 ∷ whole 50 ∷ [])
-          ∷ (0 ∷ 0 ∷ 0 ∷ whole 10 ∷ whole 11 ∷ below 28 ∷ 0 ∷ 0 ∷ whole 12 ∷ 0 ∷ [])
-          ∷ (1 ∷ 1 ∷ 0 ∷ whole 4 ∷ whole 7 ∷ below 17 ∷ 0 ∷ 0 ∷ whole 12 ∷ 0 ∷ [])
-          ∷ (2 ∷ 2 ∷ 0 ∷ whole 10 ∷ whole 10 ∷ below 10 ∷ 0 ∷ 0 ∷ whole 12 ∷ 0 ∷ [])
-          ∷ (0 ∷ 0 ∷ whole 1 ∷ whole 2 ∷ [])
-          ∷ (0 ∷ 0 ∷ whole 28 ∷ [])
-          ∷ [];
-    }
+unfolding plainLines
+P1 = record { variant = plainVariant (tag "Latn") (whole 1); extent = whole 28; expected = plainLines 0 }
 
 -- text length 54, Spacing: advances 25, 19, 25, extent 54
 P2 : Case
@@ -142,34 +142,22 @@ P5 =
 
 -- alignment middle: baseline 4
 P6 : Case
+unfolding plainLines
 P6 =
     record {
       variant = record { mode = 0; upright = 0; script = tag "Latn"; letter = whole 1; fixed = 0; target = 0; adjust = 0; alignment = 4; shifts = []; dx = [] };
       extent = whole 28;
-      expected =
-          (0 ∷ 3 ∷ whole 100 ∷ whole 50 ∷ [])
-          ∷ (0 ∷ 0 ∷ 0 ∷ whole 10 ∷ whole 11 ∷ below 28 ∷ 0 ∷ 0 ∷ whole 12 ∷ 0 ∷ [])
-          ∷ (1 ∷ 1 ∷ 0 ∷ whole 4 ∷ whole 7 ∷ below 17 ∷ 0 ∷ 0 ∷ whole 12 ∷ 0 ∷ [])
-          ∷ (2 ∷ 2 ∷ 0 ∷ whole 10 ∷ whole 10 ∷ below 10 ∷ 0 ∷ 0 ∷ whole 12 ∷ 0 ∷ [])
-          ∷ (0 ∷ whole 4 ∷ whole 1 ∷ whole 2 ∷ [])
-          ∷ (0 ∷ 0 ∷ whole 28 ∷ [])
-          ∷ [];
+      expected = plainLines (whole 4);
     }
 
 -- superscript: −5
 P7 : Case
+unfolding plainLines
 P7 =
     record {
       variant = record { mode = 0; upright = 0; script = tag "Latn"; letter = whole 1; fixed = 0; target = 0; adjust = 0; alignment = 0; shifts = 2 ∷ []; dx = [] };
       extent = whole 28;
-      expected =
-          (0 ∷ 3 ∷ whole 100 ∷ whole 50 ∷ [])
-          ∷ (0 ∷ 0 ∷ 0 ∷ whole 10 ∷ whole 11 ∷ below 28 ∷ 0 ∷ 0 ∷ whole 12 ∷ 0 ∷ [])
-          ∷ (1 ∷ 1 ∷ 0 ∷ whole 4 ∷ whole 7 ∷ below 17 ∷ 0 ∷ 0 ∷ whole 12 ∷ 0 ∷ [])
-          ∷ (2 ∷ 2 ∷ 0 ∷ whole 10 ∷ whole 10 ∷ below 10 ∷ 0 ∷ 0 ∷ whole 12 ∷ 0 ∷ [])
-          ∷ (0 ∷ below 5 ∷ whole 1 ∷ whole 2 ∷ [])
-          ∷ (0 ∷ 0 ∷ whole 28 ∷ [])
-          ∷ [];
+      expected = plainLines (below 5);
     }
 
 -- top to bottom, upright A: nudge 4, ascent 5. Shift y is the accumulated dx negated, and nothing is added to the negated baseline shift:

@@ -2,8 +2,8 @@
 -- (P2 is the trap of text length, P8 those of −0.) Assumes nothing.
 use Prim.Native.Nat.{ℕ}
 use mathlib.Core.Path.{_≡_, refl}
-use mathlib.Core.Bool.{Bool, true, false}
-use mathlib.Core.List.{List, [], _∷_, _++_, map, flatMap}
+use mathlib.Core.Bool.{true, false}
+use mathlib.Core.List.{List, [], _∷_, map, flatMap}
 use Rattle.labels.specs.Outcome.{Outcome, refused, given}
 use Rattle.labels.specs.Bytes.{bytes}
 use Rattle.labels.specs.Script.{scriptSupportsLetterSpacing, isWordSeparatorAt}

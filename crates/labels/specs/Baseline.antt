@@ -6,7 +6,7 @@ use mathlib.Core.Bool.{cond}
 use mathlib.Core.List.{List, [], _∷_, foldr}
 use lib.ListN.{getD}
 use lib.Dec.{eqb, leb}
-use lib.IntN.{ℤ, pos}
+use lib.IntN.{pos}
 use lib.Ieee.{Float, neg}
 use Rattle.labels.specs.Single.{_+ᶠ_, _-ᶠ_, _*ᶠ_, +0, half, four-fifths}
 use Rattle.labels.specs.Job.{Font, Shift, Span, SpanParts, BaselineShift, leftToRight}

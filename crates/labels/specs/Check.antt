@@ -1,5 +1,5 @@
 -- Checks 1 to 6 of a job, in document 01's order: each covers the whole job before the next. Definitions only.
-use Prim.Native.Nat.{ℕ, zero, suc, _-_}
+use Prim.Native.Nat.{ℕ, _-_}
 use mathlib.Core.Bool.{Bool, true, not, cond, _&&_, _||_}
 use mathlib.Core.List.{List, [], _∷_}
 use lib.ListN.{getD, drop, length}

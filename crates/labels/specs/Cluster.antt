@@ -2,8 +2,8 @@
 -- marks). Definitions only.
 pub use Rattle.labels.specs.declared.Cluster.{Cluster}
 use Rattle.labels.specs.ClusterParts.{withLine, withHeight, withScale, withMarks, collapsed}
-use Prim.Native.Nat.{ℕ, _+_}
-use mathlib.Core.Bool.{Bool, true, false, not, cond, _||_}
+use Prim.Native.Nat.{ℕ}
+use mathlib.Core.Bool.{false, not, cond, _||_}
 use mathlib.Core.List.{List, [], _∷_, map, foldl}
 use lib.ListN.{getD, length}
 use lib.Dec.{eqb}

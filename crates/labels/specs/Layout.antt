@@ -9,7 +9,7 @@ use lib.Ieee.{Float, binary32, ofInt}
 use Rattle.labels.specs.Outcome.{Outcome, refused, given, andThen}
 use Rattle.labels.specs.Single.{_+ᶠ_, +0}
 use Rattle.labels.specs.Utf8.{characters}
-use Rattle.labels.specs.Job.{Job, Chunk, Span, SpanParts, Glyph, hasX, hasY, spansOf, fontAt, noFont, topToBottom}
+use Rattle.labels.specs.Job.{Job, Chunk, SpanParts, Glyph, hasX, hasY, spansOf, fontAt, noFont, topToBottom}
 use Rattle.labels.specs.Check.{checked}
 use Rattle.labels.specs.Merge.{mergeGlyphs}
 use Rattle.labels.specs.Group.{groups}

@@ -1,6 +1,6 @@
 -- Step 7: positions along the line, `resolve_clusters_positions_horizontal` of source document 000. Definitions only.
 use Prim.Native.Nat.{ℕ, suc, _+_}
-use mathlib.Core.Bool.{Bool, cond}
+use mathlib.Core.Bool.{cond}
 use mathlib.Core.List.{List, [], _∷_, map, foldl}
 use lib.ListN.{getD}
 use lib.Dec.{leb, eqb}

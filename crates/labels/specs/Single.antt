@@ -1,9 +1,9 @@
 -- Rust's f32: the operations of `lib.Ieee` at binary32, each rounded once, to the nearest, ties to even. Definitions only.
 use Prim.Native.Nat.{ℕ}
-use mathlib.Core.Bool.{Bool, _||_, _&&_}
+use mathlib.Core.Bool.{Bool, _&&_}
 use lib.Dec.{eqb}
 use lib.IntN.{pos}
-use lib.Ieee.{Float, binary32, add, sub, mul, div, neg, lt, le, eq, ofInt, ofBits, toBits}
+use lib.Ieee.{Float, binary32, add, sub, mul, div, lt, le, eq, ofInt, ofBits, toBits}
 
 infixl 75 _+ᶠ_ _-ᶠ_
 infixl 80 _*ᶠ_ _/ᶠ_

@@ -1,0 +1,118 @@
+//! A seeded run of cases, each with the outcome that the Rust gives.
+
+use crate::bytes::hex;
+use crate::call::call;
+use crate::damage::damaged;
+use crate::encode::encode;
+use crate::generate;
+use crate::job::{Chunk, Glyph, Job, Span};
+use crate::random::Random;
+use crate::refusal::Refusal;
+
+pub struct Case {
+    pub job: Vec<u8>,
+    pub lent: usize,
+    pub outcome: Result<Vec<u8>, Refusal>,
+}
+
+const LARGE: usize = 65_536;
+
+pub fn cases(seed: u64, count: usize) -> impl Iterator<Item = Case> {
+    let mut random = Random::new(seed);
+    (0..count).map(move |_| case(&mut random))
+}
+
+fn case(random: &mut Random) -> Case {
+    let job = match random.below(200) {
+        0..=2 => encode(&crowded(random)),
+        3..=70 => damaged(generate::job(random), random),
+        _ => encode(&generate::job(random)),
+    };
+    let lent = lent_length(&job, random);
+    let outcome = call(&job, lent);
+    Case { job, lent, outcome }
+}
+
+fn lent_length(job: &[u8], random: &mut Random) -> usize {
+    let whole = call(job, usize::MAX).map_or(0, |answer| answer.len());
+    match random.below(8) {
+        0 => whole,
+        1 => whole.saturating_sub(1),
+        2 => random.pick(&[0, whole + 1]),
+        _ => LARGE,
+    }
+}
+
+/// A chunk whose first span all but fills the merged list, and whose second inserts into it: 8, or just not.
+fn crowded(random: &mut Random) -> Job {
+    loop {
+        let job = generate::job(random);
+        if let Some(chunk) = crowd(&job, random) {
+            return Job {
+                chunks: vec![chunk],
+                ..job
+            };
+        }
+    }
+}
+
+/// Made from the job's first chunk that has a glyph.
+fn crowd(job: &Job, random: &mut Random) -> Option<Chunk> {
+    let shaped = |span: &&Span| !span.glyphs.is_empty();
+    let (chunk, model) = job
+        .chunks
+        .iter()
+        .find_map(|c| Some((c, c.spans.iter().find(shaped)?)))?;
+    let long = Glyph {
+        byte_index: 0,
+        cluster_length: 3,
+        ..model.glyphs[0].clone()
+    };
+    let short = Glyph {
+        cluster_length: 1,
+        ..long.clone()
+    };
+    let span = |start, end, glyphs| Span {
+        start,
+        end,
+        glyphs,
+        ..model.clone()
+    };
+    let first = span(0, 0, vec![long; 1_024 - random.below(2)]);
+    let second = span(0, 1, vec![short; 2 + random.below(2)]);
+    Some(Chunk {
+        text: b"A".to_vec(),
+        spans: vec![first, second],
+        ..chunk.clone()
+    })
+}
+
+impl Case {
+    /// Job, lent length, number and answer, as a line of cases.txt has them.
+    pub fn line(&self) -> String {
+        let (number, answer) = parts(&self.outcome);
+        format!(
+            "{} {} {} {}",
+            word(&self.job),
+            self.lent,
+            number,
+            word(answer)
+        )
+    }
+}
+
+pub fn parts(outcome: &Result<Vec<u8>, Refusal>) -> (u8, &[u8]) {
+    match outcome {
+        Ok(answer) => (0, answer),
+        Err(refusal) => (refusal.0, &[]),
+    }
+}
+
+/// Bytes in hex, or a dash for none, so that a line always has four words.
+pub fn word(bytes: &[u8]) -> String {
+    if bytes.is_empty() {
+        "-".to_string()
+    } else {
+        hex(bytes)
+    }
+}

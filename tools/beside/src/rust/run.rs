@@ -1,0 +1,230 @@
+//! The chunk loop of `layout_text`, without its font lookup and bounding boxes, and check 9.
+
+use super::transform::Step;
+use super::*;
+use crate::answer::{self, ChunkRow, ClusterRow, GlyphRow, Run, SpanRow};
+use crate::job::Job;
+use crate::refusal::{unless, Refusal};
+
+pub fn rows(job: &Job) -> Result<Vec<ChunkRow>, Refusal> {
+    let text = convert::text(job);
+    let fonts = convert::fonts(job);
+    let cache = convert::cache(&text, &fonts);
+    let mut pen = (0.0, 0.0);
+    let mut char_offset = 0;
+    let mut rows = vec![];
+    for (chunk, source) in text.chunks.iter().zip(&job.chunks) {
+        let clusters = merge::clusters_of(chunk, &cache, &convert::resolver(source, &fonts))?;
+        let row = if clusters.is_empty() {
+            ChunkRow {
+                pen,
+                clusters: vec![],
+                spans: vec![],
+            }
+        } else {
+            chunk_row(&text, chunk, char_offset, pen, &cache, clusters)?
+        };
+        pen = row.pen;
+        char_offset += chunk.text.chars().count();
+        rows.push(row);
+    }
+    Ok(rows)
+}
+
+fn chunk_row(
+    text: &Text,
+    chunk: &TextChunk,
+    char_offset: usize,
+    pen: (f32, f32),
+    cache: &FontsCache,
+    mut clusters: Vec<GlyphCluster>,
+) -> Result<ChunkRow, Refusal> {
+    let mode = text.writing_mode;
+    let (x, y) = (chunk.x.unwrap_or(pen.0), chunk.y.unwrap_or(pen.1));
+
+    lookup::by_first_glyph(&mut clusters, |clusters| {
+        apply_writing_mode(mode, clusters);
+        apply_letter_spacing(chunk, clusters);
+    });
+    apply_word_spacing(chunk, &mut clusters);
+    unless(
+        !chunk
+            .spans
+            .iter()
+            .any(|s| has_nothing_to_stretch(s, &clusters)),
+        9,
+    )?;
+    apply_length_adjust(chunk, &mut clusters);
+    let mut end =
+        resolve_clusters_positions_horizontal(text, chunk, char_offset, mode, &mut clusters);
+    if mode == WritingMode::TopToBottom {
+        std::mem::swap(&mut end.0, &mut end.1);
+    }
+    for (i, cluster) in clusters.iter_mut().enumerate() {
+        cluster.transform.cluster = i;
+    }
+
+    let spans = chunk.spans.iter().enumerate().filter_map(|(index, span)| {
+        let font = cache.get(&span.font)?;
+        Some(span_row(index, span, font, mode, (x, y), &clusters))
+    });
+    Ok(ChunkRow {
+        pen: (x + end.0, y + end.1),
+        spans: spans.collect(),
+        clusters: clusters.iter().map(cluster_row).collect(),
+    })
+}
+
+/// Check 9: SpacingAndGlyphs with a text length, and clusters that take part, all of width zero.
+fn has_nothing_to_stretch(span: &TextSpan, clusters: &[GlyphCluster]) -> bool {
+    let first_at = |i: usize| clusters.iter().find(|c| c.byte_idx.value() == i);
+    let mut widths = (span.start..span.end)
+        .filter_map(first_at)
+        .map(|c| c.width)
+        .peekable();
+    span.text_length.is_some()
+        && span.length_adjust == LengthAdjust::SpacingAndGlyphs
+        && widths.peek().is_some()
+        && widths.all(|width| width == 0.0)
+}
+
+fn span_row(
+    index: usize,
+    span: &TextSpan,
+    font: &ResolvedFont,
+    mode: WritingMode,
+    origin: (f32, f32),
+    clusters: &[GlyphCluster],
+) -> SpanRow {
+    let size = span.font_size.get();
+    let (under, over, through) = match mode {
+        WritingMode::LeftToRight => (
+            -font.underline_position(size),
+            -font.ascent(size),
+            -font.line_through_position(size),
+        ),
+        WritingMode::TopToBottom => (font.height(size) / 2.0, -font.height(size) / 2.0, 0.0),
+    };
+    let wanted =
+        |style: &Option<TextDecorationStyle>, offset| style.as_ref().map_or(0.0, |_| offset);
+    let runs = collect_decoration_spans(span, clusters);
+    SpanRow {
+        index: index as u8,
+        origin,
+        baseline_shift: resolve_baseline(span, font, mode),
+        thickness: font.underline_thickness(size),
+        under: wanted(&span.decoration.underline, under),
+        over: wanted(&span.decoration.overline, over),
+        through: wanted(&span.decoration.line_through, through),
+        runs: runs.iter().map(run).collect(),
+    }
+}
+
+fn run(run: &DecorationSpan) -> Run {
+    Run {
+        first: run.transform.cluster as u16,
+        width: run.width,
+    }
+}
+
+fn cluster_row(cluster: &GlyphCluster) -> ClusterRow {
+    let mut row = ClusterRow {
+        byte_index: cluster.byte_idx.value() as u16,
+        flags: 0,
+        width: cluster.width,
+        advance: cluster.advance,
+        length_spacing: cluster.text_length_spacing,
+        ascent: cluster.ascent,
+        descent: cluster.descent,
+        nudge: 0.0,
+        scale: 0.0,
+        shift: (0.0, 0.0),
+        angle: 0.0,
+        glyphs: cluster.glyphs.iter().map(glyph_row).collect(),
+    };
+    if cluster.has_relative_shift {
+        row.flags |= answer::RELATIVE_SHIFT;
+    }
+    // A cluster is formed of one glyph or more: only step 4 takes them all.
+    if cluster.glyphs.is_empty() {
+        row.flags |= answer::COLLAPSED;
+    }
+    read_transform(&mut row, &cluster.transform.steps());
+    read_path_transform(&mut row, &cluster.path_transform.steps());
+    row
+}
+
+fn read_transform(row: &mut ClusterRow, steps: &[Step]) {
+    let shift = steps.iter().rposition(|s| matches!(s, Step::Translate(..)));
+    for (i, &step) in steps.iter().enumerate() {
+        match step {
+            Step::Translate(x, y) if Some(i) == shift => row.shift = (x, y),
+            Step::Translate(_, nudge) => {
+                row.nudge = nudge;
+                row.flags |= answer::SIDEWAYS;
+            }
+            Step::Scale(scale, _) => {
+                row.scale = scale;
+                row.flags |= answer::SCALED;
+            }
+            Step::Rotate(angle) => {
+                row.angle = angle;
+                row.flags |= answer::ROTATED;
+            }
+            Step::RotateAt(..) => {}
+        }
+    }
+    assert_eq!(
+        steps,
+        transform_of(row),
+        "document 01's steps are not the Rust's"
+    );
+}
+
+fn read_path_transform(row: &mut ClusterRow, steps: &[Step]) {
+    if let Some(&Step::Translate(_, nudge)) = steps.first() {
+        row.nudge = nudge;
+        row.flags |= answer::UPRIGHT;
+    }
+    assert_eq!(
+        steps,
+        path_transform_of(row),
+        "document 01's steps are not the Rust's"
+    );
+}
+
+/// The cluster's transform as document 01 has it from the row.
+fn transform_of(row: &ClusterRow) -> Vec<Step> {
+    let steps = [
+        (answer::SIDEWAYS, Step::Translate(0.0, row.nudge)),
+        (answer::SCALED, Step::Scale(row.scale, 1.0)),
+        (0, Step::Translate(row.shift.0, row.shift.1)),
+        (answer::ROTATED, Step::Rotate(row.angle)),
+    ];
+    let taken = steps
+        .into_iter()
+        .filter(|&(flag, _)| row.flags & flag == flag);
+    taken.map(|(_, step)| step).collect()
+}
+
+fn path_transform_of(row: &ClusterRow) -> Vec<Step> {
+    if row.flags & answer::UPRIGHT == 0 {
+        return vec![];
+    }
+    vec![
+        Step::Translate(0.0, row.nudge),
+        Step::RotateAt(-90.0, row.ascent, -row.nudge),
+    ]
+}
+
+fn glyph_row(glyph: &PositionedGlyph) -> GlyphRow {
+    let [Step::Translate(x, y)] = glyph.glyph_ts.steps()[..] else {
+        panic!("a glyph is not placed by one translation");
+    };
+    GlyphRow {
+        id: glyph.id.number,
+        font: glyph.font.0,
+        x,
+        y,
+    }
+}
