@@ -9,5 +9,7 @@ pub mod Loops
 pub mod Numbers
 pub mod Records
 pub mod AnswerLength
+pub mod All
 pub mod Accepted
+pub mod ReadBack
 pub mod AsMany

@@ -1,0 +1,41 @@
+-- What holds of all elements of a list, of all conditions, of all records that are read. Assumes nothing.
+use Prim.Native.Nat.{ℕ, zero, suc}
+use mathlib.Core.Bool.{Bool}
+use mathlib.Core.List.{List, [], _∷_}
+use lib.ListN.{drop}
+use lib.Dec.{T}
+use lib.Ieee.Fits.{and-l, and-r}
+use Rattle.labels.specs.Lists.{all, every}
+use Rattle.labels.specs.Bytes.{rows}
+
+pub data All {A : Type 0} (P : A → Type 0) : List A → Type 0 where
+  none : All P []
+  more : {x : A} {xs : List A} → P x → All P xs → All P (x ∷ xs)
+
+-- a test that passes everywhere
+pub all-of : {A : Type 0} (p : A → Bool) (xs : List A) → T (all p xs) → All (λ x. T (p x)) xs
+unfolding all
+all-of p [] h = All.none
+all-of p (x ∷ xs) h = All.more (and-l (p x) (all p xs) h) (all-of p xs (and-r (p x) (all p xs) h))
+
+-- what holds of every record that is read
+pub all-rows : {A : Type 0} (P : A → Type 0) (size : List ℕ → ℕ) (read : List ℕ → A) → ((bs : List ℕ) → P (read bs)) → (n : ℕ) (bs : List ℕ) → All P (rows size read n bs)
+unfolding rows
+all-rows P size read h zero bs = All.none
+all-rows P size read h (suc n) bs = All.more (h bs) (all-rows P size read h n (drop (size bs) bs))
+
+pub both : {A : Type 0} {P Q R : A → Type 0} {xs : List A} → ((x : A) → P x → Q x → R x) → All P xs → All Q xs → All R xs
+both f All.none All.none = All.none
+both f (All.more {x = x} p ps) (All.more q qs) = All.more (f x p q) (both f ps qs)
+
+-- conditions that all hold
+pub all-every : (bs : List Bool) → T (every bs) → All T bs
+unfolding every
+all-every [] h = All.none
+all-every (b ∷ bs) h = All.more (and-l b (every bs) h) (all-every bs (and-r b (every bs) h))
+
+pub first : {A : Type 0} {P : A → Type 0} {x : A} {xs : List A} → All P (x ∷ xs) → P x
+first (All.more p ps) = p
+
+pub rest : {A : Type 0} {P : A → Type 0} {x : A} {xs : List A} → All P (x ∷ xs) → All P xs
+rest (All.more p ps) = ps
