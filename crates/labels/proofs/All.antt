@@ -1,8 +1,8 @@
 -- What holds of all elements of a list, of all conditions, of all records that are read. Assumes nothing.
 use Prim.Native.Nat.{ℕ, zero, suc}
 use mathlib.Core.Bool.{Bool}
-use mathlib.Core.List.{List, [], _∷_}
-use lib.ListN.{drop}
+use mathlib.Core.List.{List, [], _∷_, _++_, map}
+use lib.ListN.{take, drop, set, getD}
 use lib.Dec.{T}
 use lib.Ieee.Fits.{and-l, and-r}
 use Rattle.labels.specs.Lists.{all, every}
@@ -39,3 +39,38 @@ first (All.more p ps) = p
 
 pub rest : {A : Type 0} {P : A → Type 0} {x : A} {xs : List A} → All P (x ∷ xs) → All P xs
 rest (All.more p ps) = ps
+
+-- ---- parts of a list, and lists put together
+
+module _ {A : Type 0} {P : A → Type 0} where
+  pub all-append : {xs ys : List A} → All P xs → All P ys → All P (xs ++ ys)
+  all-append All.none qs = qs
+  all-append (All.more p ps) qs = All.more p (all-append ps qs)
+
+  pub all-take : (n : ℕ) {xs : List A} → All P xs → All P (take n xs)
+  all-take zero ps = All.none
+  all-take (suc n) All.none = All.none
+  all-take (suc n) (All.more p ps) = All.more p (all-take n ps)
+
+  pub all-drop : (n : ℕ) {xs : List A} → All P xs → All P (drop n xs)
+  all-drop zero ps = ps
+  all-drop (suc n) All.none = All.none
+  all-drop (suc n) (All.more p ps) = all-drop n ps
+
+  pub all-set : {xs : List A} (i : ℕ) (x : A) → P x → All P xs → All P (set xs i x)
+  all-set i x q All.none = All.none
+  all-set zero x q (All.more p ps) = All.more q ps
+  all-set (suc i) x q (All.more p ps) = All.more p (all-set i x q ps)
+
+  pub all-getD : {xs : List A} (i : ℕ) (d : A) → P d → All P xs → P (getD xs i d)
+  all-getD i d q All.none = q
+  all-getD zero d q (All.more p ps) = p
+  all-getD (suc i) d q (All.more p ps) = all-getD i d q ps
+
+pub all-map : {A B : Type 0} {P : A → Type 0} (Q : B → Type 0) (f : A → B) → ((x : A) → P x → Q (f x)) → {xs : List A} → All P xs → All Q (map f xs)
+all-map Q f h All.none = All.none
+all-map Q f h (All.more p ps) = All.more (h _ p) (all-map Q f h ps)
+
+pub all-weaken : {A : Type 0} {P Q : A → Type 0} → ((x : A) → P x → Q x) → {xs : List A} → All P xs → All Q xs
+all-weaken h All.none = All.none
+all-weaken h (All.more p ps) = All.more (h _ p) (all-weaken h ps)

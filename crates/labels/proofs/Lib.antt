@@ -11,5 +11,7 @@ pub mod Records
 pub mod AnswerLength
 pub mod All
 pub mod Accepted
+pub mod Counted
+pub mod Merged
 pub mod ReadBack
 pub mod AsMany
