@@ -1,11 +1,11 @@
--- What holds of all elements of a list, of all conditions, of all records that are read. Assumes nothing.
+-- What holds of all elements of a list, of all conditions, of all records that are read; and what folds and branches keep. Assumes nothing.
 use Prim.Native.Nat.{ℕ, zero, suc}
-use mathlib.Core.Bool.{Bool}
-use mathlib.Core.List.{List, [], _∷_, _++_, map}
+use mathlib.Core.Bool.{Bool, true, false, cond}
+use mathlib.Core.List.{List, [], _∷_, _++_, map, foldl}
 use lib.ListN.{take, drop, set, getD}
 use lib.Dec.{T}
 use lib.Ieee.Fits.{and-l, and-r}
-use Rattle.labels.specs.Lists.{all, every}
+use Rattle.labels.specs.Lists.{all, every, modify, scan}
 use Rattle.labels.specs.Bytes.{rows}
 
 pub data All {A : Type 0} (P : A → Type 0) : List A → Type 0 where
@@ -67,6 +67,18 @@ module _ {A : Type 0} {P : A → Type 0} where
   all-getD zero d q (All.more p ps) = p
   all-getD (suc i) d q (All.more p ps) = all-getD i d q ps
 
+  -- an element set anew, and each of them
+  pub all-modify : (f : A → A) → ((x : A) → P x → P (f x)) → {xs : List A} → All P xs → (i : ℕ) → All P (modify f xs i)
+  unfolding modify
+  all-modify f h All.none i = All.none
+  all-modify f h (All.more p ps) zero = All.more (h _ p) ps
+  all-modify f h (All.more p ps) (suc i) = All.more p (all-modify f h ps i)
+
+  pub all-scan : {S : Type 0} (next : S → A → S) (f : S → A → A) → ((s : S) (x : A) → P x → P (f s x)) → (s : S) {xs : List A} → All P xs → All P (scan next f s xs)
+  unfolding scan
+  all-scan next f h s All.none = All.none
+  all-scan next f h s (All.more p ps) = All.more (h s _ p) (all-scan next f h (next s _) ps)
+
 pub all-map : {A B : Type 0} {P : A → Type 0} (Q : B → Type 0) (f : A → B) → ((x : A) → P x → Q (f x)) → {xs : List A} → All P xs → All Q (map f xs)
 all-map Q f h All.none = All.none
 all-map Q f h (All.more p ps) = All.more (h _ p) (all-map Q f h ps)
@@ -74,3 +86,20 @@ all-map Q f h (All.more p ps) = All.more (h _ p) (all-map Q f h ps)
 pub all-weaken : {A : Type 0} {P Q : A → Type 0} → ((x : A) → P x → Q x) → {xs : List A} → All P xs → All Q xs
 all-weaken h All.none = All.none
 all-weaken h (All.more p ps) = All.more (h _ p) (all-weaken h ps)
+
+-- what holds of every record that is read of bytes that each have Q
+pub all-read : {A : Type 0} {Q : ℕ → Type 0} (P : A → Type 0) (size : List ℕ → ℕ) (read : List ℕ → A) → ((bs : List ℕ) → All Q bs → P (read bs)) → (n : ℕ) (bs : List ℕ) → All Q bs
+    → All P (rows size read n bs)
+unfolding rows
+all-read P size read h zero bs q = All.none
+all-read P size read h (suc n) bs q = All.more (h bs q) (all-read P size read h n (drop (size bs) bs) (all-drop (size bs) q))
+
+-- ---- what each step of a fold keeps, and each branch has
+
+pub fold-keeps : {A B : Type 0} (P : B → Type 0) (f : B → A → B) → ((b : B) (x : A) → P b → P (f b x)) → (b : B) → P b → (xs : List A) → P (foldl f b xs)
+fold-keeps P f h b p [] = p
+fold-keeps P f h b p (x ∷ xs) = fold-keeps P f h (f b x) (h b x p) xs
+
+pub cond-keeps : {A : Type 0} (P : A → Type 0) (b : Bool) {x y : A} → P x → P y → P (cond b x y)
+cond-keeps P true p q = p
+cond-keeps P false p q = q

@@ -15,3 +15,11 @@ pub mod Counted
 pub mod Merged
 pub mod ReadBack
 pub mod AsMany
+pub mod GlyphsAccepted
+pub mod Few
+pub mod GroupsKeep
+pub mod IfGiven
+pub mod FitCluster
+pub mod ClustersFit
+pub mod SpanRowsFit
+pub mod RowsFit
