@@ -49,7 +49,7 @@ pub record Adjusted (fonts : List Font) (spans : List Span) (K D S g from H B L 
   pub few : length cells ≤ g
 
 -- the divisor of a span's text length: the clusters that take part, less 1
-pub divisor : List ℕ → Span → ℕ
+unfoldable pub divisor : List ℕ → Span → ℕ
 divisor is s = let n = marked (marksFrom s [] is) in cond (hasLength s && eqb (s .adjust) adjustSpacing && ltb 1 n) (n - 1) 1
 
 -- a step that is not refused gives its value
@@ -263,7 +263,7 @@ refused-stays n [] = refl
 refused-stays n (s ∷ ss) = refused-stays n ss
 
 module _ {fonts : List Font} {spans : List Span} {K D S g : ℕ} (frame : Frame fonts K D S) (g-few : g ≤ 1024) {H B : ℕ} {is : List ℕ} (H-small : H ≤ 2 ^ 48 * (unit * D)) (n : ℕ) where
-  all-spans : {from L : ℕ} {cs : List Cluster} {qs : List ExactCluster} (ss : List Span) → All SpanIn ss → T (ordered n from ss) → (P : ℕ) → K ≡ P * product (map (divisor is) ss)
+  pub all-spans : {from L : ℕ} {cs : List Cluster} {qs : List ExactCluster} (ss : List Span) → All SpanIn ss → T (ordered n from ss) → (P : ℕ) → K ≡ P * product (map (divisor is) ss)
       → B + (L + lengthsMass D ss) ≤ H → Adjusted fonts spans K D S g from H B L is cs qs → (ds : List Cluster) → foldl adjustSpan (given cs) ss ≡ given ds
       → (to : ℕ) × Adjusted fonts spans K D S g to H B (L + lengthsMass D ss) is ds (foldl adjustSpanExactly qs ss)
   unfolding ordered
@@ -388,3 +388,17 @@ fresh-errors g (All.more {x = q} p ps) (Lined.more {k = k} {ks = ks} b l) = go (
         → k .e + sumOf (λ k. k .e) ks + C * (cond d (k .B) 0 + sumOf (set (λ k. k .B)) ks) ≤ cond d (k .e) 0 + sumOf (set (λ k. k .e)) ks + C * (k .B + sumOf (λ k. k .B) ks)
     go true e h = omega arith
     go false e h = omega (arith, b .fresh e .1, mul-le-mul-right (k .B) p)
+
+-- all advances together
+pub totals : {fonts : List Font} {spans : List Span} {K D S g from H B L : ℕ} {is : List ℕ} {cs : List Cluster} {qs : List ExactCluster} (a : Adjusted fonts spans K D S g from H B L is cs qs)
+    → (sumOf (λ k. k .a) (a .cells) ≤ 3 * (B + L)) × (sumOf (λ k. k .e) (a .cells) ≤ (56 * g + 46) * (B + L))
+totals {g = g} {B = B} {L = L} a = (
+  mass _ _ _ _ (fresh-masses (a .lined)) (a .masses) (set-below (λ k. k .B) (a .cells)) (a .bodies),
+  error (56 * g + 46) _ _ _ _ (fresh-errors g (a .counts) (a .lined)) (a .errors) (a .bodies),
+)
+  where
+    mass : (t sa sb b : ℕ) → t + sb ≤ sa + b → sa ≤ 3 * (sb + L) → sb ≤ b → b ≡ B → t ≤ 3 * (B + L)
+    mass t sa sb b h i j e = omega arith
+
+    error : (c t se sb b : ℕ) → t + c * sb ≤ se + c * b → se ≤ c * (sb + L) → b ≡ B → t ≤ c * (B + L)
+    error c t se sb b h i e = omega (arith, ap (λ (z : ℕ). c * z) e)

@@ -10,3 +10,8 @@ pub mod Factor
 pub mod Lengths
 pub mod Shifts
 pub mod Positions
+pub mod Accepted
+pub mod Total
+pub mod Groups
+pub mod Chunk
+pub mod Answer

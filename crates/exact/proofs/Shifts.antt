@@ -1,6 +1,6 @@
 -- Step 7: the shifts, summed in text order and stored by place, beside the exact ones. Assumes nothing.
 use Prim.Native.Nat.{ℕ, zero, suc, _+_, _*_, _^_, _≤_}
-use mathlib.Core.Path.{_≡_, refl, sym, ap, _∙_, subst, subst₂}
+use mathlib.Core.Path.{_≡_, refl, sym, ap, ap₂, _∙_, subst, subst₂}
 use mathlib.Core.Bool.{Bool, true, false, cond}
 use mathlib.Core.List.{List, [], _∷_, map, foldl}
 use native.Mathlib.Nat.{mul-le-mul-right}
@@ -183,3 +183,7 @@ shifted {D = D} {S = S} {H = H} {X = X} {ks = ks} {cs = cs} {qs = qs} sc u even 
 
     steps : 0 + 9 * (length order * X) ≤ Ex
     steps = rw (order-length (map (exact .index) qs), length-map qs (exact .index)) (omega arith)
+
+pub shifted-indexes : {D S Y Ey X Ex : ℕ} {ks : List Cell} {cs : List Cluster} {qs : List ExactCluster} → Shifted D S Y Ey X Ex ks cs qs → map (rounded .index) cs ≡ map (exact .index) qs
+shifted-indexes nil = refl
+shifted-indexes (cons b l) = ap₂ _∷_ (b .index) (shifted-indexes l)

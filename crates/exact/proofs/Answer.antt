@@ -1,0 +1,231 @@
+-- Demand 3: of every job that is accepted, the answer's bytes hold as many chunks and clusters as the exact layout, with the same byte indexes and
+-- collapse marks, and each offset is finite and within (g + 3) × T ÷ 2 ^ 18 of the exact one. Assumes nothing.
+use Prim.Native.Nat.{ℕ, _+_, _/_, _%_, _≤_, _<_}
+use mathlib.Core.Path.{_≡_, refl, sym, ap, _∙_, subst}
+use mathlib.Core.Bool.{Bool, true, false, cond}
+use mathlib.Core.List.{List, [], _∷_, _++_, map, foldl, append-nil}
+use native.Mathlib.Omega.{arith}
+use borrow.Author.Tests.{eq-eqb, ne-eqb}
+use lib.ListN.{length, drop, length-map}
+use lib.Seq.{append-snoc}
+use lib.Dec.{T, eqb, leb, lit<}
+use lib.Ieee.{Float, nan, inf, fin}
+use lib.Ieee.Fits.{down-pos}
+use Rattle.rounding.specs.Fraction.{Frac, valueOf}
+use Rattle.labels.proofs.All.{All, all-of, all-weaken, both}
+use Rattle.labels.proofs.Accepted.{accepted, floats-in-range, RangedChunk}
+use Rattle.labels.proofs.Counted.{IsByte, counted, CountedChunk}
+use Rattle.labels.proofs.GlyphsAccepted.{merged-accepted}
+use Rattle.labels.proofs.ReadBack.{read-answer}
+use Rattle.labels.proofs.RowsFit.{rows-fit}
+use Rattle.labels.specs.declared.Glyph.{Glyph}
+use Rattle.labels.specs.declared.Cluster.{Cluster}
+use Rattle.labels.specs.Outcome.{Outcome, refused, given, andThen}
+use Rattle.labels.specs.Lists.{scan}
+use Rattle.labels.specs.Utf8.{characters}
+use Rattle.labels.specs.Job.{Job, Chunk, SpanParts, spansOf, topToBottom}
+use Rattle.labels.specs.Check.{checked, spansOk}
+use Rattle.labels.specs.Merge.{mergeGlyphs}
+use Rattle.labels.specs.Position.{entries, logicalOrder, resolveRelativeShifts, turnShifts, placedFrom, positioned}
+use Rattle.labels.specs.Cluster.{rounded, markRelativeShifts}
+use Rattle.labels.specs.Answer.{ClusterRow, ChunkRow, answerBytes}
+use Rattle.labels.specs.Layout.{bit, flagsOf, clusterRow, adjustedClusters, resolveClustersPositionsHorizontal, LaidChunk, Progress, beginning, placeChunk, layoutChunk, layoutJob, rowsOf, layoutRows, fitting, layoutOf, bufferAfter}
+use Rattle.labels.specs.Exact.{ExactCluster, AllPairs, Near, NearChunk, NearChunks, NearAnswer, allowed, formedExactly, layoutExactly}
+use Rattle.rounding.proofs.Near.{Near as NearBy}
+use Rattle.rounding.proofs.Inputs.{Input}
+use Rattle.exact.proofs.Formed.{FontIn, GlyphIn}
+use Rattle.exact.proofs.Spaced.{SpanIn}
+use Rattle.exact.proofs.Positions.{Offset}
+use Rattle.exact.proofs.Accepted.{input, spans-in, fonts-in, glyph-in, groups-in}
+use Rattle.exact.proofs.Chunk.{offset-pairs, near}
+
+-- ---- a row
+
+value-positive : (x : Float) → 0 < valueOf x .den
+unfolding valueOf
+value-positive nan = lit< tt
+value-positive (inf s) = lit< tt
+value-positive (fin s m e) = down-pos e
+
+-- the collapse mark is read back from the flags
+bit-below : (b : Bool) (n : ℕ) → bit b n ≤ n
+bit-below true n = omega arith
+bit-below false n = omega arith
+
+turn-below : (t u : Bool) → cond t (cond u 2 4) 0 ≤ 4
+turn-below true true = omega arith
+turn-below true false = omega arith
+turn-below false u = omega arith
+
+flags-collapsed : (mode : ℕ) (c : Cluster) → eqb (flagsOf mode c / 32 % 2) 1 ≡ c .collapsed
+flags-collapsed mode c =
+    go (c .collapsed) (bit (c .relative) 1 + cond (eqb mode topToBottom) (cond (c .upright) 2 4) 0 + bit (c .scaled) 8 + bit (c .rotated) 16)
+    (omega (arith, bit-below (c .relative) 1, turn-below (eqb mode topToBottom) (c .upright), bit-below (c .scaled) 8, bit-below (c .rotated) 16))
+  where
+    go : (b : Bool) (low : ℕ) → low ≤ 29 → eqb ((low + bit b 32) / 32 % 2) 1 ≡ b
+    go true low h = eq-eqb ((low + 32) / 32 % 2) 1 (omega arith)
+    go false low h = ne-eqb ((low + 0) / 32 % 2) 1 (λ (e : (low + 0) / 32 % 2 ≡ 1). omega arith)
+
+row-near : {b : Frac} {c : Cluster} {q : ExactCluster} {D S m e : ℕ} (mode : ℕ) (gs : List Glyph) → Offset D S m e c q → NearBy (c .x) (q .x) b → Near b (clusterRow mode gs c) q
+unfolding clusterRow
+row-near {c = c} mode gs o n =
+    record {
+      index = o .index;
+      collapsed = flags-collapsed mode c ∙ o .collapsed;
+      finite = n .0;
+      above = (value-positive (c .x), n .1, n .2);
+      distance = n .3;
+    }
+
+rows-near : {b : Frac} {D S m e : ℕ} {cs : List Cluster} {qs : List ExactCluster} (mode : ℕ) (gs : List Glyph) → ((c : Cluster) (q : ExactCluster) → Offset D S m e c q → NearBy (c .x) (q .x) b)
+    → AllPairs (Offset D S m e) cs qs → AllPairs (Near b) (map (clusterRow mode gs) cs) qs
+rows-near mode gs h AllPairs.none = AllPairs.none
+rows-near mode gs h (AllPairs.more o os) = AllPairs.more (row-near mode gs o (h _ _ o)) (rows-near mode gs h os)
+
+-- a step that gives a value was reached
+reached : {A B : Type 0} (o : Outcome A) (f : A → Outcome B) (b : B) → andThen o f ≡ given b → (a : A) × (o ≡ given a) × (f a ≡ given b)
+unfolding andThen
+reached (refused n) f b e = let z : _≡_ {A = ℕ} 0 1 = cc in absurd (omega arith)
+reached (given a) f b e = (a, refl, e)
+
+-- ---- a chunk
+
+-- what is known of a chunk of an accepted job
+pub record ChunkIn (job : Job) (c : Chunk) : Type 0 where
+  pub spans : All SpanIn (spansOf c)
+  pub order : T (spansOk c)
+  pub few : length (spansOf c) ≤ 32
+  pub glyphs : (gs : List Glyph) → mergeGlyphs (c .parts) ≡ given gs → All (GlyphIn (job .fonts)) gs × (length gs ≤ 1024)
+
+pub record JobIn (job : Job) : Type 0 where
+  pub fonts : All FontIn (job .fonts)
+  pub dx : All Input (job .dx)
+  pub dy : All Input (job .dy)
+  pub chunks : All (ChunkIn job) (job .chunks)
+
+module _ (job : Job) (fonts : All FontIn (job .fonts)) (dxs : All Input (job .dx)) (dys : All Input (job .dy)) where
+  placed-near : (c : Chunk) → ChunkIn job c → (offset : ℕ) (gs : List Glyph) (ds : List Cluster) → mergeGlyphs (c .parts) ≡ given gs → adjustedClusters job c gs ≡ given ds
+      → AllPairs (Near (allowed 18 job offset c (formedExactly job c gs))) (map (clusterRow (job .mode) gs) (resolveClustersPositionsHorizontal job offset c ds .clusters)) (layoutExactly job offset c (formedExactly job c gs))
+  placed-near c i offset gs ds m e =
+      let known = i .glyphs gs m in
+      let gi = groups-in (known .0) (known .1) (i .spans) in
+      rows-near (job .mode) gs (near job c offset gs fonts (i .spans) (i .order) (i .few) dxs dys gi ds e) (offset-pairs job c offset gs fonts (i .spans) (i .order) (i .few) dxs dys gi ds e)
+
+  -- no cluster, no row
+  turn-none : (mode : ℕ) → turnShifts rounded mode [] ≡ []
+  unfolding turnShifts
+  turn-none mode = go (eqb mode topToBottom)
+    where
+      go : (b : Bool) → _≡_ {A = List Cluster} (cond b [] []) []
+      go true = refl
+      go false = refl
+
+  none-moved : (offset : ℕ) (c : Chunk) → markRelativeShifts job (c .text) offset (turnShifts rounded (job .mode) (resolveRelativeShifts rounded job (c .text) offset [])) ≡ []
+  unfolding resolveRelativeShifts logicalOrder entries markRelativeShifts
+  none-moved offset c = ap (markRelativeShifts job (c .text) offset) (turn-none (job .mode))
+
+  none-placed : (offset : ℕ) (c : Chunk) → resolveClustersPositionsHorizontal job offset c [] .clusters ≡ []
+  unfolding resolveClustersPositionsHorizontal positioned placedFrom scan
+  none-placed offset c = ap (λ (cs : List Cluster). positioned rounded (c .anchor) cs .clusters) (none-moved offset c)
+
+  chunk-near : (c : Chunk) → ChunkIn job c → (offset : ℕ) (gs : List Glyph) (ds : List Cluster) → mergeGlyphs (c .parts) ≡ given gs → adjustedClusters job c gs ≡ given ds
+      → (row : ChunkRow) → row .clusters ≡ map (clusterRow (job .mode) gs) (resolveClustersPositionsHorizontal job offset c ds .clusters) → NearChunk job offset c (mergeGlyphs (c .parts)) row
+  unfolding NearChunk
+  chunk-near c i offset gs ds m e row h =
+      subst (λ (o : Outcome (List Glyph)). NearChunk job offset c o row) (sym m)
+      (subst (λ (l : List ClusterRow). AllPairs (Near (allowed 18 job offset c (formedExactly job c gs))) l (layoutExactly job offset c (formedExactly job c gs))) (sym h) (placed-near c i offset gs ds m e))
+
+  -- ---- the chunks in order
+
+  -- what a chunk's layout adds to the progress
+  record Advanced (st st' : Progress) (c : Chunk) : Type 0 where
+    laid : LaidChunk
+    chunks : st' .chunks ≡ st .chunks ++ (laid ∷ [])
+    offset : st' .offset ≡ st .offset + characters (c .text)
+    near : NearChunk job (st .offset) c (mergeGlyphs (c .parts)) (laid .row)
+
+  placed-chunk : (st : Progress) (c : Chunk) → ChunkIn job c → (gs : List Glyph) (ds : List Cluster) → mergeGlyphs (c .parts) ≡ given gs → adjustedClusters job c gs ≡ given ds → Advanced st (placeChunk job st c gs ds) c
+  unfolding placeChunk
+  placed-chunk st c i gs [] m e =
+      record { laid = _; chunks = refl; offset = refl; near = chunk-near c i (st .offset) gs [] m e _ (sym (ap (map (clusterRow (job .mode) gs)) (none-placed (st .offset) c))) }
+  placed-chunk st c i gs (k ∷ ks) m e = record { laid = _; chunks = refl; offset = refl; near = chunk-near c i (st .offset) gs (k ∷ ks) m e _ refl }
+
+  laid-chunk : (st st' : Progress) (c : Chunk) → ChunkIn job c → layoutChunk job (given st) c ≡ given st' → Advanced st st' c
+  unfolding layoutChunk
+  laid-chunk st st' c i e =
+      let r = reached (mergeGlyphs (c .parts)) _ st' e in
+      let s = reached (adjustedClusters job c (r .0)) _ st' (r .2) in
+      let is : placeChunk job st c (r .0) (s .0) ≡ st' = cc (s .2) in
+      subst (λ (st' : Progress). Advanced st st' c) is (placed-chunk st c i (r .0) (s .0) (r .1) (s .1))
+
+  refused-stays : (n : ℕ) (cs : List Chunk) → foldl (layoutChunk job) (refused n) cs ≡ refused n
+  unfolding layoutChunk
+  refused-stays n [] = refl
+  refused-stays n (c ∷ cs) = refused-stays n cs
+
+  abbrev Laid : Progress → Progress → List Chunk → Type 0
+  Laid st st' cs = (laid : List LaidChunk) × (st' .chunks ≡ st .chunks ++ laid) × NearChunks job (st .offset) cs (rowsOf laid)
+
+  laid-chunks : (cs : List Chunk) → All (ChunkIn job) cs → (st st' : Progress) → foldl (layoutChunk job) (given st) cs ≡ given st' → Laid st st' cs
+  unfolding NearChunks
+  laid-chunks [] All.none st st' e = let same : st ≡ st' = cc in ([], sym (ap (λ (s : Progress). s .chunks) same) ∙ sym (append-nil (st .chunks)), tt)
+  laid-chunks (c ∷ cs) (All.more i is) st st' e = go (layoutChunk job (given st) c) refl e (λ s. laid-chunks cs is s st')
+    where
+      go : (o : Outcome Progress) → layoutChunk job (given st) c ≡ o → foldl (layoutChunk job) o cs ≡ given st' → ((s : Progress) → foldl (layoutChunk job) (given s) cs ≡ given st' → Laid s st' cs) → Laid st st' (c ∷ cs)
+      go (refused n) h e rec = let z : _≡_ {A = ℕ} 0 1 = cc (refused-stays n cs) in absurd (omega arith)
+      go (given s) h e rec =
+          let a = laid-chunk st s c i h in
+          let r = rec s e in
+          (a .laid ∷ r .0, r .1 ∙ ap (λ (l : List LaidChunk). l ++ r .0) (a .chunks) ∙ append-snoc (st .chunks) (a .laid) (r .0), (a .near, subst (λ (n : ℕ). NearChunks job n cs (rowsOf (r .0))) (a .offset) (r .2)))
+
+-- ---- an accepted job
+
+job-in : (bs : List ℕ) (job : Job) → All IsByte bs → checked bs ≡ given job → JobIn job
+job-in bs job h e =
+    let r = floats-in-range bs job e in
+    let merged = merged-accepted bs job h e in
+    let order = all-of spansOk (job .chunks) (accepted bs job e .spans) in
+    record {
+      fonts = fonts-in bs job h e;
+      dx = all-weaken input (r .dx);
+      dy = all-weaken input (r .dy);
+      chunks =
+          both (λ c m x. record {
+            spans = spans-in c (x .0);
+            order = x .1 .0;
+            few = subst (λ (n : ℕ). n ≤ 32) (sym (length-map (c .parts) (λ (p : SpanParts). p .span))) (x .1 .1 .spans);
+            glyphs = λ gs f. (all-weaken (glyph-in job c) (m gs f .glyphs), m gs f .few);
+          }) merged (both {R = λ c. RangedChunk c × (T (spansOk c) × CountedChunk c)} (λ c p q. (p, q)) (r .chunks) (both {R = λ c. T (spansOk c) × CountedChunk c} (λ c p q. (p, q)) order (counted bs job e .each)));
+    }
+
+rows-of-job : (job : Job) → JobIn job → (rows : List LaidChunk) → layoutJob job ≡ given rows → NearChunks job 0 (job .chunks) (rowsOf rows)
+unfolding layoutJob
+rows-of-job job i rows e =
+    let r = reached (foldl (layoutChunk job) (given beginning) (job .chunks)) _ rows e in
+    let l = laid-chunks job (i .fonts) (i .dx) (i .dy) (job .chunks) (i .chunks) beginning (r .0) (r .1) in
+    let same : r .0 .chunks ≡ rows = cc (r .2) in
+    subst (λ (ls : List LaidChunk). NearChunks job 0 (job .chunks) (rowsOf ls)) (sym (l .1) ∙ same) (l .2)
+
+-- demand 3, of the rows that a job's bytes give
+pub near-rows : (bs : List ℕ) (rows : List ChunkRow) (after : List ℕ) → All IsByte bs → layoutRows bs ≡ given rows → NearAnswer (checked bs) (answerBytes rows ++ after)
+unfolding layoutRows NearAnswer
+near-rows bs rows after h e =
+    let r = reached (checked bs) _ rows e in
+    let l = reached (layoutJob (r .0)) _ rows (r .2) in
+    let same : rowsOf (l .0) ≡ rows = cc (l .2) in
+    let fit = rows-fit bs rows h e in
+    let near = subst (λ (rs : List ChunkRow). NearChunks (r .0) 0 (r .0 .chunks) rs) (same ∙ sym (read-answer rows after (fit .1) (fit .0))) (rows-of-job (r .0) (job-in bs (r .0) h (r .1)) (l .0) (l .1)) in
+    subst (λ (o : Outcome Job). NearAnswer o (answerBytes rows ++ after)) (sym (r .1)) near
+
+-- ---- demand 3, as the call leaves it: whatever the lent buffer held before, its bytes afterwards are near
+pub near-answer : (bs : List ℕ) (room : ℕ) (answer old : List ℕ) → All IsByte bs → layoutOf bs room ≡ given answer → NearAnswer (checked bs) (bufferAfter (layoutOf bs room) old)
+unfolding layoutOf fitting
+near-answer bs room answer old h e =
+    let r = reached (layoutRows bs) (fitting room) answer e in
+    let is : answerBytes (r .0) ≡ answer = not-refused (leb (length (answerBytes (r .0))) room) (answerBytes (r .0)) answer (r .2) in
+    subst (λ (o : Outcome (List ℕ)). NearAnswer (checked bs) (bufferAfter o old)) (sym e)
+    (subst (λ (a : List ℕ). NearAnswer (checked bs) (a ++ drop (length answer) old)) is (near-rows bs (r .0) (drop (length answer) old) h (r .1)))
+  where
+    not-refused : (b : Bool) (x y : List ℕ) → cond b (given x) (refused 10) ≡ given y → x ≡ y
+    not-refused true x y e = cc
+    not-refused false x y e = let z : _≡_ {A = ℕ} 0 1 = cc in absurd (omega arith)
