@@ -134,39 +134,39 @@ module _ {fonts : List Font} (spans : List Span) {K D S : ℕ} (frame : Frame fo
       × Along D S K (glyphPart fonts spans K D (q .group)) (letterPart fonts spans K D (q .group)) ((9 * length (q .group .glyphs) + 28) * letterPart fonts spans K D (q .group)) c q
 
   module _ (g : Group) (i : GroupIn fonts spans g) where
-    abbrev S· : Span
-    S· = spanAt spans (g .span)
+    abbrev ownSpan : Span
+    ownSpan = spanAt spans (g .span)
 
-    abbrev A· : ℕ
-    A· = glyphPart fonts spans K D g
+    abbrev ownGlyphs : ℕ
+    ownGlyphs = glyphPart fonts spans K D g
 
-    abbrev l· : ℕ
-    l· = sizeOf (S· .letter) * D
+    abbrev ownLetter : ℕ
+    ownLetter = sizeOf (ownSpan .letter) * D
 
-    abbrev m· : ℕ
-    m· = length (g .glyphs)
+    abbrev ownCount : ℕ
+    ownCount = length (g .glyphs)
 
     -- what T counts of them
-    pub body : Load D (foldl (λ (t : Frac) (a : Glyph). t +ᵠ absᵠ (glyphAdvance exact fonts (S· .size) a)) 0ᵠ (g .glyphs) +ᵠ absᵠ (valueOf (S· .letter)) +ᵠ absᵠ (valueOf (S· .word)))
-        (0 + A· + l· + sizeOf (S· .word) * D) (0 + m· + 1 + 1)
-    body = load-add (load-add (glyphs-load frame (S· .size) (i .span .size) (load-zero D) (i .glyphs)) (load-input D (i .span .letter))) (load-input D (i .span .word))
+    pub body : Load D (foldl (λ (t : Frac) (a : Glyph). t +ᵠ absᵠ (glyphAdvance exact fonts (ownSpan .size) a)) 0ᵠ (g .glyphs) +ᵠ absᵠ (valueOf (ownSpan .letter)) +ᵠ absᵠ (valueOf (ownSpan .word)))
+        (0 + ownGlyphs + ownLetter + sizeOf (ownSpan .word) * D) (0 + ownCount + 1 + 1)
+    body = load-add (load-add (glyphs-load frame (ownSpan .size) (i .span .size) (load-zero D) (i .glyphs)) (load-input D (i .span .letter))) (load-input D (i .span .word))
 
     -- far below S
     pub word-fits : wordPart fonts spans K D g ≤ S
     word-fits = go (unit * D) (body .small) (frame .scale .large)
       where
-        go : (z : ℕ) → 0 + A· + l· + sizeOf (S· .word) * D ≤ (0 + m· + 1 + 1) * (2 ^ 28 * z) → 2 ^ 50 * z ≤ S → A· + l· + sizeOf (S· .word) * D ≤ S
+        go : (z : ℕ) → 0 + ownGlyphs + ownLetter + sizeOf (ownSpan .word) * D ≤ (0 + ownCount + 1 + 1) * (2 ^ 28 * z) → 2 ^ 50 * z ≤ S → ownGlyphs + ownLetter + sizeOf (ownSpan .word) * D ≤ S
         go z h k = omega (arith, mul-le-mul-right (2 ^ 28 * z) (i .few))
 
-    advance-formed : Track D S (K * 2) (sumAdvance rounded fonts (S· .size) (g .glyphs)) (sumAdvance exact fonts (S· .size) (g .glyphs)) A· ((19 + 9 * m·) * A·)
-    advance-formed = advance-track frame (S· .size) (i .span .size) (i .glyphs) (i .few)
+    advance-formed : Track D S (K * 2) (sumAdvance rounded fonts (ownSpan .size) (g .glyphs)) (sumAdvance exact fonts (ownSpan .size) (g .glyphs)) ownGlyphs ((19 + 9 * ownCount) * ownGlyphs)
+    advance-formed = advance-track frame (ownSpan .size) (i .span .size) (i .glyphs) (i .few)
 
-    width-formed : Track D S (K * 2) (maxAdvance rounded fonts (S· .size) (g .glyphs)) (maxAdvance exact fonts (S· .size) (g .glyphs)) A· (19 * A·)
-    width-formed = width-track frame (S· .size) (i .span .size) (i .glyphs) (i .few)
+    width-formed : Track D S (K * 2) (maxAdvance rounded fonts (ownSpan .size) (g .glyphs)) (maxAdvance exact fonts (ownSpan .size) (g .glyphs)) ownGlyphs (19 * ownGlyphs)
+    width-formed = width-track frame (ownSpan .size) (i .span .size) (i .glyphs) (i .few)
 
     -- no spacing added, and spacing added
-    advance-plain : Track D S (K * 2) (sumAdvance rounded fonts (S· .size) (g .glyphs)) (sumAdvance exact fonts (S· .size) (g .glyphs)) (A· + l·) ((9 * m· + 28) * (A· + l·))
-    advance-plain = track-weaken _ _ (more A· l·) (cost A· l· m·) advance-formed
+    advance-plain : Track D S (K * 2) (sumAdvance rounded fonts (ownSpan .size) (g .glyphs)) (sumAdvance exact fonts (ownSpan .size) (g .glyphs)) (ownGlyphs + ownLetter) ((9 * ownCount + 28) * (ownGlyphs + ownLetter))
+    advance-plain = track-weaken _ _ (more ownGlyphs ownLetter) (cost ownGlyphs ownLetter ownCount) advance-formed
       where
         more : (a l : ℕ) → a ≤ a + l
         more a l = omega arith
@@ -174,10 +174,10 @@ module _ {fonts : List Font} (spans : List Span) {K D S : ℕ} (frame : Frame fo
         cost : (a l m : ℕ) → (19 + 9 * m) * a ≤ (9 * m + 28) * (a + l)
         cost a l m = omega arith
 
-    advance-lettered : Track D S (K * 2) (add binary32 (sumAdvance rounded fonts (S· .size) (g .glyphs)) (S· .letter)) (sumAdvance exact fonts (S· .size) (g .glyphs) +ᵠ valueOf (S· .letter)) (A· + l·) ((9 * m· + 28) * (A· + l·))
+    advance-lettered : Track D S (K * 2) (add binary32 (sumAdvance rounded fonts (ownSpan .size) (g .glyphs)) (ownSpan .letter)) (sumAdvance exact fonts (ownSpan .size) (g .glyphs) +ᵠ valueOf (ownSpan .letter)) (ownGlyphs + ownLetter) ((9 * ownCount + 28) * (ownGlyphs + ownLetter))
     advance-lettered =
-        track-weaken _ _ (le-refl (A· + l·)) (cost A· l· m·)
-        (track-add (A· + l·) advance-formed (track-input (frame .scale) (K * 2) _ (S· .letter) (frame .is) (i .span .letter)) (le-refl (A· + l·)) (room A· l· m· (i .few)) (less A· l· _ word-fits))
+        track-weaken _ _ (le-refl (ownGlyphs + ownLetter)) (cost ownGlyphs ownLetter ownCount)
+        (track-add (ownGlyphs + ownLetter) advance-formed (track-input (frame .scale) (K * 2) _ (ownSpan .letter) (frame .is) (i .span .letter)) (le-refl (ownGlyphs + ownLetter)) (room ownGlyphs ownLetter ownCount (i .few)) (less ownGlyphs ownLetter _ word-fits))
       where
         cost : (a l m : ℕ) → (19 + 9 * m) * a + 0 + 9 * (a + l) ≤ (9 * m + 28) * (a + l)
         cost a l m = omega arith
@@ -189,8 +189,8 @@ module _ {fonts : List Font} (spans : List Span) {K D S : ℕ} (frame : Frame fo
         less a l w h = omega arith
 
     -- a cluster with some advance, kept and collapsed
-    kept : {a : Float} {q : Frac} (c : Cluster) → FormedOf fonts spans a g c → Track D S (K * 2) a q (A· + l·) ((9 * m· + 28) * (A· + l·))
-        → Lettered c (record { group = g; collapsed = c .collapsed; width = maxAdvance exact fonts (S· .size) (g .glyphs); advance = q; spacing = 0ᵠ; x = 0ᵠ; y = 0ᵠ })
+    kept : {a : Float} {q : Frac} (c : Cluster) → FormedOf fonts spans a g c → Track D S (K * 2) a q (ownGlyphs + ownLetter) ((9 * ownCount + 28) * (ownGlyphs + ownLetter))
+        → Lettered c (record { group = g; collapsed = c .collapsed; width = maxAdvance exact fonts (ownSpan .size) (g .glyphs); advance = q; spacing = 0ᵠ; x = 0ᵠ; y = 0ᵠ })
     kept c f t = (
       i,
       record {
@@ -215,8 +215,8 @@ module _ {fonts : List Font} (spans : List Span) {K D S : ℕ} (frame : Frame fo
         tag = f .tag;
         span = f .span;
         collapsed = refl;
-        width = track-zero (frame .scale) (K * 2) A· (19 * A·);
-        advance = track-zero (frame .scale) (K * 2) (A· + l·) ((9 * m· + 28) * (A· + l·));
+        width = track-zero (frame .scale) (K * 2) ownGlyphs (19 * ownGlyphs);
+        advance = track-zero (frame .scale) (K * 2) (ownGlyphs + ownLetter) ((9 * ownCount + 28) * (ownGlyphs + ownLetter));
         spacing = (f .spacing, refl);
         shiftX = (f .x, refl);
         shiftY = (f .y, refl);
@@ -228,31 +228,31 @@ module _ {fonts : List Font} (spans : List Span) {K D S : ℕ} (frame : Frame fo
     unspaced-one c f = kept c f advance-plain
 
     -- settled, once the advance is a beside q
-    settled-one : {a : Float} {q : Frac} (c : Cluster) → FormedOf fonts spans a g c → Track D S (K * 2) a q (A· + l·) ((9 * m· + 28) * (A· + l·)) → (b : Bool)
+    settled-one : {a : Float} {q : Frac} (c : Cluster) → FormedOf fonts spans a g c → Track D S (K * 2) a q (ownGlyphs + ownLetter) ((9 * ownCount + 28) * (ownGlyphs + ownLetter)) → (b : Bool)
         → Lettered (cond b (collapsed c) c)
-        (settled exact (record { group = g; collapsed = cond b (collapsed c) c .collapsed; width = maxAdvance exact fonts (S· .size) (g .glyphs); advance = q; spacing = 0ᵠ; x = 0ᵠ; y = 0ᵠ }))
+        (settled exact (record { group = g; collapsed = cond b (collapsed c) c .collapsed; width = maxAdvance exact fonts (ownSpan .size) (g .glyphs); advance = q; spacing = 0ᵠ; x = 0ᵠ; y = 0ᵠ }))
     unfolding settled
     settled-one c f t true = gone c f
     settled-one {q = q} c f t false =
         subst (λ (d : Bool). Lettered c (cond d (collapseOf d) (withMark d))) (sym (f .fresh)) (subst (λ (d : Bool). Lettered c (withMark d)) (f .fresh) (kept c f t))
       where
         withMark : Bool → ExactCluster
-        withMark d = record { group = g; collapsed = d; width = maxAdvance exact fonts (S· .size) (g .glyphs); advance = q; spacing = 0ᵠ; x = 0ᵠ; y = 0ᵠ }
+        withMark d = record { group = g; collapsed = d; width = maxAdvance exact fonts (ownSpan .size) (g .glyphs); advance = q; spacing = 0ᵠ; x = 0ᵠ; y = 0ᵠ }
 
         collapseOf : Bool → ExactCluster
         collapseOf d = record { group = g; collapsed = d; width = 0ᵠ; advance = 0ᵠ; spacing = 0ᵠ; x = 0ᵠ; y = 0ᵠ }
 
     letter-one : (last : Bool) (c : Cluster) → Formed fonts spans g c
-        → Lettered (letterSpaced rounded (S· .letter) last c) (letterSpaced exact (S· .letter) last (exactCluster fonts spans g (letterSpaced rounded (S· .letter) last c)))
+        → Lettered (letterSpaced rounded (ownSpan .letter) last c) (letterSpaced exact (ownSpan .letter) last (exactCluster fonts spans g (letterSpaced rounded (ownSpan .letter) last c)))
     unfolding letterSpaced settled exactCluster
     letter-one true c f = settled-one c f advance-plain (not (isPositive (c .advance)))
     letter-one false c f =
-        settled-one (withLine (c .width) (add binary32 (c .advance) (S· .letter)) (c .spacing) (c .x) (c .y) c)
-        (record { index = f .index; tag = f .tag; span = f .span; fresh = f .fresh; width = f .width; advance = ap (λ (a : Float). add binary32 a (S· .letter)) (f .advance); spacing = f .spacing; x = f .x; y = f .y })
-        advance-lettered (not (isPositive (add binary32 (c .advance) (S· .letter))))
+        settled-one (withLine (c .width) (add binary32 (c .advance) (ownSpan .letter)) (c .spacing) (c .x) (c .y) c)
+        (record { index = f .index; tag = f .tag; span = f .span; fresh = f .fresh; width = f .width; advance = ap (λ (a : Float). add binary32 a (ownSpan .letter)) (f .advance); spacing = f .spacing; x = f .x; y = f .y })
+        advance-lettered (not (isPositive (add binary32 (c .advance) (ownSpan .letter))))
 
     next-is : (left : ℕ) (c : Cluster) → Formed fonts spans g c
-        → nextLetterSpaced rounded spans left c ≡ cond (scriptSupportsLetterSpacing (g .first .tag)) (letterSpaced rounded (S· .letter) (eqb left 1) c) c
+        → nextLetterSpaced rounded spans left c ≡ cond (scriptSupportsLetterSpacing (g .first .tag)) (letterSpaced rounded (ownSpan .letter) (eqb left 1) c) c
     unfolding nextLetterSpaced
     next-is left c f =
         ap₂ (λ (t k : ℕ). cond (scriptSupportsLetterSpacing t) (letterSpaced rounded (spanAt spans k .letter) (eqb left 1) c) c) (f .tag) (f .span)
@@ -264,7 +264,7 @@ module _ {fonts : List Font} (spans : List Span) {K D S : ℕ} (frame : Frame fo
         subst (λ (d : Cluster). Lettered d (nextLetterSpaced exact spans left (exactCluster fonts spans g d))) (sym (next-is left c f))
         (go (scriptSupportsLetterSpacing (g .first .tag)))
       where
-        go : (b : Bool) → Lettered (cond b (letterSpaced rounded (S· .letter) (eqb left 1) c) c) (cond b (letterSpaced exact (S· .letter) (eqb left 1) (exactCluster fonts spans g (cond b (letterSpaced rounded (S· .letter) (eqb left 1) c) c))) (exactCluster fonts spans g (cond b (letterSpaced rounded (S· .letter) (eqb left 1) c) c)))
+        go : (b : Bool) → Lettered (cond b (letterSpaced rounded (ownSpan .letter) (eqb left 1) c) c) (cond b (letterSpaced exact (ownSpan .letter) (eqb left 1) (exactCluster fonts spans g (cond b (letterSpaced rounded (ownSpan .letter) (eqb left 1) c) c))) (exactCluster fonts spans g (cond b (letterSpaced rounded (ownSpan .letter) (eqb left 1) c) c)))
         go true = letter-one (eqb left 1) c f
         go false = unspaced-one c f
 
