@@ -9,11 +9,11 @@ use lib.ListN.{length}
 use lib.Dec.{T, ltb, eqb, ltb→lt, leb→le}
 use lib.Ieee.{Float}
 use Rattle.rounding.proofs.Inputs.{Input, input-of, font-size-of}
-use Rattle.labels.proofs.All.{All, all-of, all-every, all-map, all-weaken, all-read, all-drop, both, first, rest}
-use Rattle.labels.proofs.Accepted.{accepted, InRange, RangedSpan, RangedChunk}
-use Rattle.labels.proofs.Counted.{IsByte, be-below}
-use Rattle.labels.proofs.GroupsKeep.{groups-keep}
-use Rattle.labels.proofs.GlyphsAccepted.{AcceptedGlyph}
+use Rattle.laws.proofs.All.{All, all-of, all-every, all-map, all-weaken, all-read, all-drop, both, first, rest}
+use Rattle.laws.proofs.Accepted.{accepted, InRange, RangedSpan, RangedChunk}
+use Rattle.laws.proofs.Counted.{IsByte, be-below}
+use Rattle.laws.proofs.GroupsKeep.{groups-keep}
+use Rattle.laws.proofs.GlyphsAccepted.{AcceptedGlyph}
 use Rattle.labels.specs.declared.Font.{Font}
 use Rattle.labels.specs.declared.Glyph.{Glyph}
 use Rattle.labels.specs.declared.Span.{Span}

@@ -12,12 +12,12 @@ use lib.Dec.{T, eqb, leb, lit<}
 use lib.Ieee.{Float, nan, inf, fin}
 use lib.Ieee.Fits.{down-pos}
 use Rattle.rounding.specs.Fraction.{Frac, valueOf}
-use Rattle.labels.proofs.All.{All, all-of, all-weaken, both}
-use Rattle.labels.proofs.Accepted.{accepted, floats-in-range, RangedChunk}
-use Rattle.labels.proofs.Counted.{IsByte, counted, CountedChunk}
-use Rattle.labels.proofs.GlyphsAccepted.{merged-accepted}
-use Rattle.labels.proofs.ReadBack.{read-answer}
-use Rattle.labels.proofs.RowsFit.{rows-fit}
+use Rattle.laws.proofs.All.{All, all-of, all-weaken, both}
+use Rattle.laws.proofs.Accepted.{accepted, floats-in-range, RangedChunk}
+use Rattle.laws.proofs.Counted.{IsByte, counted, CountedChunk}
+use Rattle.laws.proofs.GlyphsAccepted.{merged-accepted}
+use Rattle.laws.proofs.ReadBack.{read-answer}
+use Rattle.laws.proofs.RowsFit.{rows-fit}
 use Rattle.labels.specs.declared.Glyph.{Glyph}
 use Rattle.labels.specs.declared.Cluster.{Cluster}
 use Rattle.labels.specs.Outcome.{Outcome, refused, given, andThen}

@@ -15,8 +15,8 @@ use Rattle.rounding.proofs.Approx.{scale-at, Absorbs, Absorbs.empty, Absorbs.co
 use Rattle.rounding.proofs.Track.{track-near}
 use Rattle.rounding.proofs.Near.{Near}
 use Rattle.rounding.proofs.Inputs.{Input}
-use Rattle.labels.proofs.All.{All, all-map}
-use Rattle.labels.proofs.AsMany.{as-many}
+use Rattle.laws.proofs.All.{All, all-map}
+use Rattle.laws.proofs.AsMany.{as-many}
 use Rattle.labels.specs.declared.Font.{Font}
 use Rattle.labels.specs.declared.Span.{Span}
 use Rattle.labels.specs.declared.Glyph.{Glyph}

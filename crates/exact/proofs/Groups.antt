@@ -8,7 +8,7 @@ use lib.ListN.{length}
 use lib.Dec.{eqb}
 use lib.Ieee.{Float}
 use Rattle.rounding.specs.Fraction.{_+ᵠ_, valueOf}
-use Rattle.labels.proofs.All.{All}
+use Rattle.laws.proofs.All.{All}
 use Rattle.labels.specs.declared.Font.{Font}
 use Rattle.labels.specs.declared.Span.{Span}
 use Rattle.labels.specs.declared.Cluster.{Cluster}

@@ -16,7 +16,7 @@ use Rattle.rounding.proofs.Units.{unit, sizeOf}
 use Rattle.rounding.proofs.Track.{Track, track-lower}
 use Rattle.rounding.proofs.Sums.{Terms}
 use Rattle.rounding.proofs.Operands.{track-zero}
-use Rattle.labels.proofs.All.{All}
+use Rattle.laws.proofs.All.{All}
 use Rattle.labels.specs.declared.Font.{Font}
 use Rattle.labels.specs.declared.Span.{Span}
 use Rattle.labels.specs.declared.Cluster.{Cluster}

@@ -14,7 +14,7 @@ use Rattle.rounding.proofs.Approx.{Scale}
 use Rattle.rounding.proofs.Track.{Track, track-weaken, track-add, track-neg}
 use Rattle.rounding.proofs.Inputs.{Input, input-zero}
 use Rattle.rounding.proofs.Operands.{track-zero, track-input}
-use Rattle.labels.proofs.All.{All, all-getD}
+use Rattle.laws.proofs.All.{All, all-getD}
 use Rattle.labels.specs.declared.Font.{Font}
 use Rattle.labels.specs.declared.Span.{Span}
 use Rattle.labels.specs.declared.Cluster.{Cluster}

@@ -13,8 +13,8 @@ use Rattle.rounding.proofs.Units.{unit, sizeOf}
 use Rattle.rounding.proofs.Track.{Track, track-weaken, track-add}
 use Rattle.rounding.proofs.Inputs.{Input, FontSize}
 use Rattle.rounding.proofs.Operands.{track-zero, track-input}
-use Rattle.labels.proofs.All.{All}
-use Rattle.labels.proofs.AsMany.{length-scan}
+use Rattle.laws.proofs.All.{All}
+use Rattle.laws.proofs.AsMany.{length-scan}
 use Rattle.labels.specs.declared.Font.{Font}
 use Rattle.labels.specs.declared.Glyph.{Glyph}
 use Rattle.labels.specs.declared.Span.{Span}

@@ -1,3 +1,4 @@
+-- What is computed from the definitions, as tables, and the loops of the code.
 pub mod Seen
 pub mod Jobs
 pub mod Label
@@ -6,20 +7,3 @@ pub mod Refusals
 pub mod NearLabel
 pub mod Constants
 pub mod Loops
-pub mod Numbers
-pub mod Records
-pub mod AnswerLength
-pub mod All
-pub mod Accepted
-pub mod Counted
-pub mod Merged
-pub mod ReadBack
-pub mod AsMany
-pub mod GlyphsAccepted
-pub mod Few
-pub mod GroupsKeep
-pub mod IfGiven
-pub mod FitCluster
-pub mod ClustersFit
-pub mod SpanRowsFit
-pub mod RowsFit

@@ -79,7 +79,7 @@ exactCluster fonts spans g c =
       y = 0ᵠ;
     }
 
--- a cluster for each group: there are as many of the others (proofs/AsMany)
+-- a cluster for each group: there are as many of the others (`as-many` in the crate laws)
 unfoldable pub formedExactly : Job → Chunk → List Glyph → List ExactCluster
 formedExactly job c gs = zipWith (exactCluster (job .fonts) (spansOf c)) (groups (spansOf c) gs) (collapsedClusters job c gs)
 

@@ -5,10 +5,11 @@ use mathlib.Core.List.{List, _∷_}
 use native.Mathlib.Omega.{arith}
 use lib.ListN.{length}
 use lib.Dec.{eqb, ltb}
-use Rattle.labels.proofs.All.{All, cond-keeps}
-use Rattle.labels.proofs.Few.{Few}
-use Rattle.labels.specs.Job.{Glyph, Span}
+use Rattle.laws.proofs.All.{All, cond-keeps}
+use Rattle.laws.proofs.Few.{Few}
+use Rattle.labels.specs.declared.Glyph.{Glyph}
+use Rattle.labels.specs.declared.Span.{Span}
 use Rattle.labels.specs.Group.{Group, chunkSpanAt, joinRun, glyphRuns, coveredRuns, groups}
 
 module _ (P : Glyph → Type 0) where
   pub record KeptGroup (g : Group) : Type 0 where

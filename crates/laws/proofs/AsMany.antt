@@ -5,14 +5,17 @@ use mathlib.Core.Bool.{Bool, true, false, not, cond}
 use mathlib.Core.List.{List, [], _∷_, map}
 use lib.ListN.{length, length-map}
 use lib.Dec.{eqb}
 use Rattle.labels.specs.Lists.{scan, any}
 use Rattle.labels.specs.Single.{isZero}
-use Rattle.labels.specs.Job.{Job, Chunk, Span, Glyph, spansOf, topToBottom}
+use Rattle.labels.specs.declared.Span.{Span}
+use Rattle.labels.specs.declared.Glyph.{Glyph}
+use Rattle.labels.specs.Job.{Job, Chunk, spansOf, topToBottom}
 use Rattle.labels.specs.Group.{groups}
 use Rattle.labels.specs.Kind.{Kind}
 use Rattle.labels.specs.Spacing.{applyLetterSpacing, nextLetterSpaced}
-use Rattle.labels.specs.Cluster.{Cluster, rounded, formGlyphClusters, turned, applyWritingMode}
+use Rattle.labels.specs.declared.Cluster.{Cluster}
+use Rattle.labels.specs.Cluster.{rounded, formGlyphClusters, turned, applyWritingMode}
 use Rattle.labels.specs.Layout.{collapsedClusters}
 
 pub length-scan : {A S : Type 0} (next : S → A → S) (f : S → A → A) (s : S) (xs : List A) → length (scan next f s xs) ≡ length xs
 unfolding scan

@@ -6,25 +6,29 @@ use lib.ListN.{length, getD}
 use lib.Dec.{eqb, ltb}
 use lib.Ieee.{Float, binary32, lt}
 use lib.Ieee.Fits.{add-fits, mul-fits, div-fits, neg-fits}
-use Rattle.labels.proofs.All.{All, all-getD, fold-keeps, cond-keeps}
-use Rattle.labels.proofs.Few.{Few, few-map, few-scan, few-modify, few-modifies}
-use Rattle.labels.proofs.IfGiven.{IfGiven}
-use Rattle.labels.proofs.ReadBack.{Fits}
-use Rattle.labels.proofs.GroupsKeep.{groups-keep}
-use Rattle.labels.proofs.FitCluster.{FitCluster, FitClusters, zero-fits, line-fits, height-fits, scale-fits, marks-fit, collapsed-fits, advance-fits, shift-fits}
+use Rattle.laws.proofs.All.{All, all-getD, fold-keeps, cond-keeps}
+use Rattle.laws.proofs.Few.{Few, few-map, few-scan, few-modify, few-modifies}
+use Rattle.laws.proofs.IfGiven.{IfGiven}
+use Rattle.laws.proofs.ReadBack.{Fits}
+use Rattle.laws.proofs.GroupsKeep.{groups-keep}
+use Rattle.laws.proofs.FitCluster.{FitCluster, FitClusters, zero-fits, line-fits, height-fits, scale-fits, marks-fit, collapsed-fits, advance-fits, shift-fits}
 use Rattle.labels.specs.Outcome.{Outcome, refused, given}
 use Rattle.labels.specs.Lists.{any, all, atOr}
 use Rattle.labels.specs.Single.{+0, isZero, thousandth}
-use Rattle.labels.specs.Job.{Job, Chunk, Font, Span, Glyph, limits, spansOf, hasLength, adjustSpacing, topToBottom}
+use Rattle.labels.specs.declared.Font.{Font}
+use Rattle.labels.specs.declared.Span.{Span}
+use Rattle.labels.specs.declared.Glyph.{Glyph}
+use Rattle.labels.specs.Job.{Job, Chunk, limits, spansOf, hasLength, adjustSpacing, topToBottom}
 use Rattle.labels.specs.Group.{Group}
 use Rattle.labels.specs.Script.{scriptSupportsLetterSpacing, isWordSeparatorAt}
 use Rattle.labels.specs.Kind.{glyphAdvance, sumAdvance, maxAdvance, indexes}
 use Rattle.labels.specs.Spacing.{settled, letterSpaced, nextLetterSpaced, applyLetterSpacing, wordSpaced, applyWordSpacing}
 use Rattle.labels.specs.LengthAdjust.{clusterIndexes, sumAt, spacingFactor, stretchedBy, adjustSpacingOf}
 use Rattle.labels.specs.Position.{Entry, Shifting, logicalOrder, characterNumber, shiftNext, resolveRelativeShifts, turnShift, turnShifts, placedFrom, positioned}
 use Rattle.labels.specs.ClusterParts.{withScale}
-use Rattle.labels.specs.Cluster.{Cluster, rounded, formGlyphClusters, turned, applyWritingMode, widthOf, scaledBy, adjustGlyphsOf, adjustSpan, applyLengthAdjust, marked, markRelativeShifts}
+use Rattle.labels.specs.declared.Cluster.{Cluster}
+use Rattle.labels.specs.Cluster.{rounded, formGlyphClusters, turned, applyWritingMode, widthOf, scaledBy, adjustGlyphsOf, adjustSpan, applyLengthAdjust, marked, markRelativeShifts}
 use Rattle.labels.specs.Layout.{collapsedClusters, adjustedClusters, resolveClustersPositionsHorizontal}
 
 -- ---- step 2
 

@@ -7,12 +7,12 @@ use lib.ListN.{length, drop, length-append}
 use lib.Seq.{drop-append-seam}
 use lib.Dec.{T}
 use lib.Ieee.{Float, binary32, fits}
-use Rattle.labels.proofs.All.{All}
-use Rattle.labels.proofs.Numbers.{be-bytes, float-floatBytes}
-use Rattle.labels.proofs.AnswerLength.{length-glyphRow, length-run, length-clusterRow, length-spanRow}
+use Rattle.laws.proofs.All.{All}
+use Rattle.laws.proofs.Numbers.{be-bytes, float-floatBytes}
+use Rattle.laws.proofs.AnswerLength.{length-glyphRow, length-run, length-clusterRow, length-spanRow}
 use Rattle.labels.specs.Bytes.{be, bytes, float, floatBytes, rows, sizes}
-use Rattle.labels.specs.Decoration.{Run}
+use Rattle.labels.specs.declared.Run.{Run}
 use Rattle.labels.specs.Answer.{GlyphRow, ClusterRow, SpanRow, ChunkRow, glyphRowSize, runSize, answerCountBytes, glyphRowBytes, clusterRowBytes, runBytes, spanRowBytes, chunkRowBytes, answerBody, answerBytes, glyphRowOf, clusterRowOf, clusterRowSizeOf, runOf, spanRowOf, spanRowSizeOf, clusterPart, spanPart, chunkRowOf, chunkRowSizeOf, readAnswer}
 
 -- ---- rows that fit their fields
 

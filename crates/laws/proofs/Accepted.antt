@@ -8,14 +8,15 @@ use lib.ListN.{length}
 use lib.Dec.{T, eqb→eq}
 use lib.Ieee.{Float, binary32, fits, ofBits, eq}
 use lib.Ieee.Bits.{ofBits-fits, ofBits-toBits}
-use Rattle.labels.proofs.All.{All, all-of, all-every, all-rows, both, first, rest}
+use Rattle.laws.proofs.All.{All, all-of, all-every, all-rows, both, first, rest}
 use Rattle.labels.specs.Outcome.{Outcome, refused, given, andThen}
 use Rattle.labels.specs.Lists.{all}
 use Rattle.labels.specs.Bytes.{float}
 use Rattle.labels.specs.Single.{isZeroBits}
-use Rattle.labels.specs.Job.{Job, Chunk, Span, SpanParts, Shift, hasX, hasY, hasLength}
+use Rattle.labels.specs.declared.Span.{Span}
+use Rattle.labels.specs.Job.{Job, Chunk, SpanParts, Shift, hasX, hasY, hasLength}
 use Rattle.labels.specs.Decode.{shaped, jobOf, chunkOf, partsOf, spanOf, shiftOf, listOf}
 use Rattle.labels.specs.Check.{Check, checks, firstFailing, checked, afterVersion, lengthOk, versionOk, valuesOk, chunkOk, partsOk, spanOk, shiftOk, sizeOk, floatOk, flaggedOk, textOk, spansOk}
 
 -- ---- each check passes
 

@@ -8,14 +8,14 @@ use native.Mathlib.Omega.{arith}
 use lib.ListN.{length, drop, length-take}
 use lib.Dec.{T, leb→le, lit<}
 use lib.Ieee.Fits.{and-l, and-r}
-use Rattle.labels.proofs.All.{All, all-every, all-getD, first, rest}
-use Rattle.labels.proofs.Records.{length-rows}
-use Rattle.labels.proofs.Accepted.{accepted}
+use Rattle.laws.proofs.All.{All, all-every, all-getD, first, rest}
+use Rattle.laws.proofs.Records.{length-rows}
+use Rattle.laws.proofs.Accepted.{accepted}
 use Rattle.labels.specs.Outcome.{given}
 use Rattle.labels.specs.Bytes.{be, rows, each}
 use Rattle.labels.specs.Job.{Job, Chunk, SpanParts, limits}
 use Rattle.labels.specs.Decode.{shaped, jobOf, chunkOf, chunkFits, chunkSize, partsOf, spanFits, spanSize, textSize, spanCount, spanBytes, chunkCount, chunkBytes}
 use Rattle.labels.specs.Check.{checked, afterVersion}
 
 -- ---- numbers of bytes
 

@@ -7,17 +7,20 @@ use lib.ListN.{length, length-append}
 use lib.Dec.{eqb}
 use lib.Ieee.{Float, binary32}
 use lib.Ieee.Fits.{add-fits, sub-fits, mul-fits, div-fits, neg-fits}
-use Rattle.labels.proofs.All.{All, all-append, cond-keeps}
-use Rattle.labels.proofs.Few.{Few}
-use Rattle.labels.proofs.ReadBack.{Fits, FitRun, FitSpanRow}
-use Rattle.labels.proofs.FitCluster.{FitCluster, FitClusters, zero-fits}
-use Rattle.labels.specs.Job.{Job, Font, Span, Shift, SpanParts, BaselineShift, limits, noFont, leftToRight, fontAt}
+use Rattle.laws.proofs.All.{All, all-append, cond-keeps}
+use Rattle.laws.proofs.Few.{Few}
+use Rattle.laws.proofs.ReadBack.{Fits, FitRun, FitSpanRow}
+use Rattle.laws.proofs.FitCluster.{FitCluster, FitClusters, zero-fits}
+use Rattle.labels.specs.declared.Font.{Font}
+use Rattle.labels.specs.declared.Span.{Span}
+use Rattle.labels.specs.declared.BaselineShift.{BaselineShift}
+use Rattle.labels.specs.Job.{Job, Shift, SpanParts, limits, noFont, leftToRight, fontAt}
 use Rattle.labels.specs.Merge.{spanContains}
-use Rattle.labels.specs.Cluster.{Cluster}
+use Rattle.labels.specs.declared.Cluster.{Cluster}
 use Rattle.labels.specs.Baseline.{baselineShiftOf, addBaselineShift, resolveBaselineShift, resolveBaseline}
 use Rattle.labels.specs.Decoration.{Collecting, waiting, started, ended, extendRun, Walking, collectNext, collectDecorationSpans, wants, underOffset, overOffset, throughOffset, thicknessOf}
-use Rattle.labels.specs.Answer.{Point}
+use Rattle.labels.specs.declared.Point.{Point}
 use Rattle.labels.specs.Layout.{spanRow, spanRows}
 
 -- ---- runs
 

@@ -5,12 +5,13 @@ use mathlib.Core.Bool.{Bool}
 use mathlib.Core.List.{List}
 use lib.Ieee.{Float, binary32}
 use lib.Ieee.Bits.{ofBits-fits}
-use Rattle.labels.proofs.Few.{Few}
-use Rattle.labels.proofs.ReadBack.{Fits}
+use Rattle.laws.proofs.Few.{Few}
+use Rattle.laws.proofs.ReadBack.{Fits}
 use Rattle.labels.specs.Single.{+0}
 use Rattle.labels.specs.Job.{limits}
 use Rattle.labels.specs.ClusterParts.{withLine, withHeight, withScale, withMarks, collapsed}
-use Rattle.labels.specs.Cluster.{Cluster, rounded}
+use Rattle.labels.specs.declared.Cluster.{Cluster}
+use Rattle.labels.specs.Cluster.{rounded}
 
 pub record FitCluster (c : Cluster) : Type 0 where
   pub index : c .index < 256 ^ 2

@@ -6,17 +6,18 @@ use mathlib.Core.List.{List}
 use lib.ListN.{length}
 use lib.Dec.{T}
 use lib.Ieee.Fits.{and-r}
-use Rattle.labels.proofs.All.{All, all-of, all-every, all-read, all-drop, both, first, rest}
-use Rattle.labels.proofs.Accepted.{accepted}
-use Rattle.labels.proofs.Counted.{IsByte, be-below, CountedParts, CountedChunk, counted}
-use Rattle.labels.proofs.Merged.{Kept, SpanKept, merged-keeps}
+use Rattle.laws.proofs.All.{All, all-of, all-every, all-read, all-drop, both, first, rest}
+use Rattle.laws.proofs.Accepted.{accepted}
+use Rattle.laws.proofs.Counted.{IsByte, be-below, CountedParts, CountedChunk, counted}
+use Rattle.laws.proofs.Merged.{Kept, SpanKept, merged-keeps}
 use Rattle.labels.specs.Outcome.{given}
 use Rattle.labels.specs.Lists.{all}
-use Rattle.labels.specs.Job.{Job, Chunk, SpanParts, Glyph}
+use Rattle.labels.specs.declared.Glyph.{Glyph}
+use Rattle.labels.specs.Job.{Job, Chunk, SpanParts}
 use Rattle.labels.specs.Decode.{jobOf, chunkOf, partsOf, glyphOf, glyphsAt, spansAt, spanBytes, chunksAt, chunkCountBytes, chunkBytes}
 use Rattle.labels.specs.Utf8.{isUtf8, startsAt}
 use Rattle.labels.specs.Check.{checked, afterVersion, valuesOk, chunkOk, partsOk, glyphOk, textOk}
 use Rattle.labels.specs.Merge.{mergeGlyphs}
 
 pub record AcceptedGlyph (job : Job) (c : Chunk) (g : Glyph) : Type 0 where
   pub id : g .id < 256 ^ 4

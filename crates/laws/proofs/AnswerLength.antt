@@ -5,10 +5,10 @@ use mathlib.Core.List.{List, [], _∷_, map, flatMap}
 use native.Mathlib.Omega.{arith}
 use lib.ListN.{length, length-append}
 use lib.Ieee.{Float}
 use Rattle.labels.specs.Bytes.{floatBytes}
-use Rattle.labels.specs.Decoration.{Run}
+use Rattle.labels.specs.declared.Run.{Run}
 use Rattle.labels.specs.Answer.{GlyphRow, ClusterRow, SpanRow, ChunkRow, glyphRowBytes, clusterRowBytes, runBytes, spanRowBytes, chunkRowBytes, answerBody, answerBytes, sum, glyphRowSize, runSize, clusterRowLength, spanRowLength, chunkRowLength, answerLength}
-use Rattle.labels.proofs.Numbers.{length-bytes, length-floatBytes}
+use Rattle.laws.proofs.Numbers.{length-bytes, length-floatBytes}
 
 -- ---- rows one after the other
 

@@ -9,26 +9,28 @@ use lib.ListN.{length, getD, length-append, length-map, length-take, length-drop
 use lib.Dec.{eqb, ltb, ltb→lt, lit≤}
 use lib.Ieee.{Float, binary32}
 use lib.Ieee.Fits.{add-fits, ofInt-fits, and-l}
-use Rattle.labels.proofs.All.{All, all-append, all-take, all-drop, all-map, all-every, all-weaken, both, cond-keeps, first, rest}
-use Rattle.labels.proofs.Few.{Few, few-map}
-use Rattle.labels.proofs.IfGiven.{IfGiven, if-given, of-given, given-then}
-use Rattle.labels.proofs.Accepted.{RangedChunk, floats-in-range}
-use Rattle.labels.proofs.Counted.{IsByte, CountedChunk, counted}
-use Rattle.labels.proofs.Merged.{Kept}
-use Rattle.labels.proofs.ReadBack.{Fits, FitGlyphRow, FitClusterRow, FitChunkRow}
-use Rattle.labels.proofs.GlyphsAccepted.{AcceptedGlyph, MergedAccepted, merged-accepted}
-use Rattle.labels.proofs.FitCluster.{FitCluster, FitClusters, zero-fits}
-use Rattle.labels.proofs.ClustersFit.{adjusted-fit, positioned-fit}
-use Rattle.labels.proofs.SpanRowsFit.{FitPoint, spanRows-fit}
+use Rattle.laws.proofs.All.{All, all-append, all-take, all-drop, all-map, all-every, all-weaken, both, cond-keeps, first, rest}
+use Rattle.laws.proofs.Few.{Few, few-map}
+use Rattle.laws.proofs.IfGiven.{IfGiven, if-given, of-given, given-then}
+use Rattle.laws.proofs.Accepted.{RangedChunk, floats-in-range}
+use Rattle.laws.proofs.Counted.{IsByte, CountedChunk, counted}
+use Rattle.laws.proofs.Merged.{Kept}
+use Rattle.laws.proofs.ReadBack.{Fits, FitGlyphRow, FitClusterRow, FitChunkRow}
+use Rattle.laws.proofs.GlyphsAccepted.{AcceptedGlyph, MergedAccepted, merged-accepted}
+use Rattle.laws.proofs.FitCluster.{FitCluster, FitClusters, zero-fits}
+use Rattle.laws.proofs.ClustersFit.{adjusted-fit, positioned-fit}
+use Rattle.laws.proofs.SpanRowsFit.{FitPoint, spanRows-fit}
 use Rattle.labels.specs.Outcome.{Outcome, refused, given}
 use Rattle.labels.specs.Single.{+0}
-use Rattle.labels.specs.Job.{Job, Chunk, Glyph, limits, hasX, hasY, topToBottom}
+use Rattle.labels.specs.declared.Glyph.{Glyph}
+use Rattle.labels.specs.Job.{Job, Chunk, limits, hasX, hasY, topToBottom}
 use Rattle.labels.specs.Utf8.{continues, startsAt}
 use Rattle.labels.specs.Check.{checked, glyphOk}
 use Rattle.labels.specs.Merge.{mergeGlyphs}
-use Rattle.labels.specs.Cluster.{Cluster}
-use Rattle.labels.specs.Answer.{Point, ChunkRow, answerCountBytes}
+use Rattle.labels.specs.declared.Cluster.{Cluster}
+use Rattle.labels.specs.declared.Point.{Point}
+use Rattle.labels.specs.Answer.{ChunkRow, answerCountBytes}
 use Rattle.labels.specs.Layout.{adjustedClusters, glyphRows, glyphsOf, bit, flagsOf, clusterRow, LaidChunk, Progress, beginning, originOf, penAfter, advanced, placeChunk, layoutChunk, layoutJob, rowsOf, layoutRows}
 
 -- ---- glyph rows
 
