@@ -1,0 +1,23 @@
+-- `fields::flagged_ok` meets its contract. Assumes nothing.
+use Rattle.labels.specs.Check.{flaggedOk}
+use Rattle.labels.specs.Single.{isZeroBits}
+use borrow.Author.Needs.{needs}
+use Rattle.fields.proofs.flagged_ok.Statement.{statement}
+use Rattle.fields.proofs.flagged_ok.Tie as tie
+
+float-ok-requires : tie.Need-float-ok-requires
+float-ok-requires c κs = search needs
+
+returns : tie.Need-returns
+unfolding flaggedOk
+returns c = rw (c .before .if1 .taken) (c .float-ok .ensures)
+
+bits-of-requires : tie.Need-bits-of-requires
+bits-of-requires c κs = search needs
+
+returns-2 : tie.Need-returns-2
+unfolding flaggedOk isZeroBits
+returns-2 c = rw (c .before .if1 .left, c .bits-of .ensures)
+
+pub flagged-ok-spec : {M : Type 1} → statement M
+flagged-ok-spec = tie.close (tie.spec float-ok-requires returns bits-of-requires returns-2)

@@ -1,0 +1,13 @@
+-- `fields::font_ok` meets its contract. Assumes nothing.
+use Rattle.labels.specs.Check.{fontOk}
+use Rattle.labels.specs.Lists.{every}
+use mathlib.Core.Bool.{and-assoc, and-true}
+use Rattle.fields.proofs.font_ok.Statement.{statement}
+use Rattle.fields.proofs.font_ok.Tie as tie
+
+returns : tie.Need-returns
+unfolding fontOk every
+returns c = simp (and-assoc, and-true)
+
+pub font-ok-spec : {M : Type 1} → statement M
+font-ok-spec = tie.close (tie.spec returns)

@@ -1,0 +1,15 @@
+-- `fields::utf8::starts_at` meets its contract. Assumes nothing.
+use Rattle.labels.specs.Utf8.{startsAt}
+use borrow.Author.Needs.{needs}
+use Rattle.fields.proofs.utf8.starts_at.Statement.{statement}
+use Rattle.fields.proofs.utf8.starts_at.Tie as tie
+
+byte-at-requires : tie.Need-byte-at-requires
+byte-at-requires c κs = search needs
+
+returns : tie.Need-returns
+unfolding startsAt
+returns c = rw (c .byte-at .ensures)
+
+pub starts-at-spec : {M : Type 1} → statement M
+starts-at-spec = tie.close (tie.spec byte-at-requires returns)

@@ -1,0 +1,22 @@
+-- `job::check::orders_ok` meets its contract. Assumes nothing.
+use Rattle.job.proofs.Tests.{chunks-test}
+use Rattle.labels.specs.Check.{spansOk}
+use borrow.Author.Needs.{needs}
+use Rattle.job.proofs.check.orders_ok.Statement.{statement}
+use Rattle.job.proofs.check.orders_ok.Tie as tie
+
+chunk-bytes-requires : tie.Need-chunk-bytes-requires
+chunk-bytes-requires c κs = search needs
+
+chunk-count-requires : tie.Need-chunk-count-requires
+chunk-count-requires c κs = search needs
+
+chunks-pass-requires : tie.Need-chunks-pass-requires
+chunks-pass-requires c κs = search needs
+
+returns : tie.Need-returns
+returns c = cc (chunks-test spansOk (c .before .before .before .before .args .job .now))
+
+pub orders-ok-spec : {M : Type 1} → statement M
+orders-ok-spec =
+    tie.close (tie.spec chunk-bytes-requires chunk-count-requires chunks-pass-requires returns)

@@ -1,0 +1,23 @@
+-- `job::shape::list_fits` meets its contract. Assumes nothing.
+use Rattle.labels.specs.Decode.{listFits}
+use Rattle.labels.specs.Lists.{every}
+use mathlib.Core.Bool.{and-true}
+use borrow.Author.Needs.{needs}
+use Rattle.job.proofs.shape.list_fits.Statement.{statement}
+use Rattle.job.proofs.shape.list_fits.Tie as tie
+
+u16-at-requires : tie.Need-u16-at-requires
+u16-at-requires c κs = search needs
+
+cast-n : tie.Need-cast-n
+cast-n c = search needs
+
+list-size-requires : tie.Need-list-size-requires
+list-size-requires c κs = search needs
+
+returns : tie.Need-returns
+unfolding listFits every
+returns c = rw (c .before .u16-at .ensures, c .list-size .ensures .0) (simp and-true)
+
+pub list-fits-spec : {M : Type 1} → statement M
+list-fits-spec = tie.close (tie.spec u16-at-requires cast-n list-size-requires returns)

@@ -1,0 +1,40 @@
+-- `job::values::chunk_ok` meets its contract. Assumes nothing.
+use Rattle.job.proofs.Tests.{chunk-test}
+use borrow.Author.Needs.{needs}
+use Rattle.job.proofs.values.chunk_ok.Statement.{statement}
+use Rattle.job.proofs.values.chunk_ok.Tie as tie
+
+head-at-requires : tie.Need-head-at-requires
+head-at-requires c κs = search needs
+
+text-of-requires : tie.Need-text-of-requires
+text-of-requires c κs = search needs
+
+flagged-ok-requires : tie.Need-flagged-ok-requires
+flagged-ok-requires c κs = search needs
+
+flagged-ok-requires-2 : tie.Need-flagged-ok-requires-2
+flagged-ok-requires-2 c κs = search needs
+
+span-bytes-requires : tie.Need-span-bytes-requires
+span-bytes-requires c κs = search needs
+
+spans-pass-requires : tie.Need-spans-pass-requires
+spans-pass-requires c κs = search needs
+
+returns : tie.Need-returns
+returns c =
+    let a = c .before .before .before .before .before .before .before .before .before .before .before .before .args in
+    cc (chunk-test (a .fonts) (c .before .before .before .before .before .before .before .before .before .text-of .result .now) (a .chunk .now))
+
+pub chunk-ok-spec : {M : Type 1} → statement M
+chunk-ok-spec =
+    tie.close
+    (tie.spec
+    head-at-requires
+    text-of-requires
+    flagged-ok-requires
+    flagged-ok-requires-2
+    span-bytes-requires
+    spans-pass-requires
+    returns)

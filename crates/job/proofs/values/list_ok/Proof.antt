@@ -1,0 +1,23 @@
+-- `job::values::list_ok` meets its contract. Assumes nothing.
+use Rattle.job.proofs.Tests.{list-test}
+use borrow.Author.Needs.{needs}
+use Rattle.job.proofs.values.list_ok.Statement.{statement}
+use Rattle.job.proofs.values.list_ok.Tie as tie
+
+u16-at-requires : tie.Need-u16-at-requires
+u16-at-requires c κs = search needs
+
+cast-n : tie.Need-cast-n
+cast-n c = search needs
+
+from-requires : tie.Need-from-requires
+from-requires c κs = search needs
+
+rows-ok-requires : tie.Need-rows-ok-requires
+rows-ok-requires c κs = search needs
+
+returns : tie.Need-returns
+returns c = cc (list-test (c .before .before .before .before .args .list .now))
+
+pub list-ok-spec : {M : Type 1} → statement M
+list-ok-spec = tie.close (tie.spec u16-at-requires cast-n from-requires rows-ok-requires returns)

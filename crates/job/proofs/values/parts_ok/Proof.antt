@@ -1,0 +1,54 @@
+-- `job::values::parts_ok` meets its contract. Assumes nothing.
+use Rattle.job.proofs.Tests.{parts-test}
+use borrow.Author.Needs.{needs}
+use Rattle.job.proofs.values.parts_ok.Statement.{statement}
+use Rattle.job.proofs.values.parts_ok.Tie as tie
+
+span-at-requires : tie.Need-span-at-requires
+span-at-requires c κs = search needs
+
+glyph-count-requires : tie.Need-glyph-count-requires
+glyph-count-requires c κs = search needs
+
+from-requires : tie.Need-from-requires
+from-requires c κs = search needs
+
+glyphs-at-requires : tie.Need-glyphs-at-requires
+glyphs-at-requires c κs = search needs
+
+add-from : tie.Need-add-from
+add-from c = search needs
+
+from-requires-2 : tie.Need-from-requires-2
+from-requires-2 c κs = search needs
+
+span-ok-requires : tie.Need-span-ok-requires
+span-ok-requires c κs = search needs
+
+shift-count-requires : tie.Need-shift-count-requires
+shift-count-requires c κs = search needs
+
+rows-ok-requires : tie.Need-rows-ok-requires
+rows-ok-requires c κs = search needs
+
+rows-ok-requires-2 : tie.Need-rows-ok-requires-2
+rows-ok-requires-2 c κs = search needs
+
+returns : tie.Need-returns
+returns c = cc (parts-test (c .before .before .before .before .before .before .before .before .before .before .before .args .fonts) (c .before .before .before .before .before .before .before .before .before .before .before .args .span .now))
+
+pub parts-ok-spec : {M : Type 1} → statement M
+parts-ok-spec =
+    tie.close
+    (tie.spec
+    span-at-requires
+    glyph-count-requires
+    from-requires
+    glyphs-at-requires
+    add-from
+    from-requires-2
+    span-ok-requires
+    shift-count-requires
+    rows-ok-requires
+    rows-ok-requires-2
+    returns)

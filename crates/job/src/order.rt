@@ -1,0 +1,40 @@
+// Check 6: the spans of a chunk stand in order inside its text.
+use parts::sizes::span_bytes;
+use parts::sizes::span_count;
+use parts::sizes::span_size;
+use parts::sizes::text_of;
+use wire::place::after;
+use wire::place::from;
+use wire::read::u16_at;
+ghost use mathlib.Core.Path.{_≡_};
+ghost use Rattle.labels.specs.Bytes.{rows};
+ghost use Rattle.labels.specs.Decode.{spanSize, spanOf, chunkOf};
+ghost use Rattle.labels.specs.Check.{ordered, spansOk};
+
+// `n` spans, in a text of `length` bytes.
+pub fn spans_ordered(spans: &[u8], n: usize, length: usize) -> bool
+    ensures { λ r. ⌜ r ≡ ordered length 0 (rows spanSize spanOf n (now (spans .entry))) ⌝ }
+{
+    let mut previous: usize = 0;
+    let mut p: usize = 0;
+    let mut left = n;
+    while 0 < left {
+        let span = from(spans, p);
+        let start = u16_at(span, 0) as usize;
+        let end = u16_at(span, 2) as usize;
+        if !((previous <= start) & (start <= end) & (end <= length)) {
+            return false;
+        }
+        previous = end;
+        p = after(spans, p, span_size(span));
+        left -= 1;
+    }
+    true
+}
+
+pub fn spans_ok(chunk: &[u8]) -> bool
+    ensures { λ r. ⌜ r ≡ spansOk (chunkOf (now (chunk .entry))) ⌝ }
+{
+    let text = text_of(chunk);
+    spans_ordered(span_bytes(chunk), span_count(chunk), text.len())
+}

@@ -1,0 +1,57 @@
+// Check 5: the text is UTF-8, and each glyph's byte index is the start of a character.
+use crate::walk::SpanCheck;
+use crate::walk::spans_pass;
+use fields::utf8::is_utf8;
+use fields::utf8::starts_at;
+use parts::sizes::glyph_count;
+use parts::sizes::glyphs_at;
+use parts::sizes::span_bytes;
+use parts::sizes::span_count;
+use parts::sizes::text_of;
+use wire::place::after;
+use wire::place::from;
+ghost use mathlib.Core.Path.{_≡_};
+ghost use Rattle.labels.specs.Lists.{all};
+ghost use Rattle.labels.specs.Bytes.{rows};
+ghost use Rattle.labels.specs.Decode.{glyphBytes, glyphOf, partsOf, chunkOf};
+ghost use Rattle.labels.specs.Check.{textOk};
+ghost use Rattle.job.specs.Walk.{indexOk};
+
+// Of `n` glyph rows.
+pub fn rows_start(text: &[u8], glyphs: &[u8], n: usize) -> bool
+    ensures { λ r. ⌜ r ≡ all (indexOk (now (text .entry))) (rows (λ b. glyphBytes) glyphOf n (now (glyphs .entry))) ⌝ }
+{
+    let mut p: usize = 0;
+    let mut left = n;
+    while 0 < left {
+        let g = parts::rows::glyph_at(glyphs, p);
+        if !starts_at(text, g.index as usize) {
+            return false;
+        }
+        p = after(glyphs, p, 25);
+        left -= 1;
+    }
+    true
+}
+
+// Of a span's glyphs.
+pub fn indexes_ok(text: &[u8], span: &[u8]) -> bool
+    ensures { λ r. ⌜ r ≡ all (indexOk (now (text .entry))) (partsOf (now (span .entry)) .glyphs) ⌝ }
+{
+    let glyphs = from(span, glyphs_at(span) + 2);
+    rows_start(text, glyphs, glyph_count(span))
+}
+
+pub fn text_ok(chunk: &[u8]) -> bool
+    ensures { λ r. ⌜ r ≡ textOk (chunkOf (now (chunk .entry))) ⌝ }
+{
+    let text = text_of(chunk);
+    is_utf8(text)
+        & spans_pass(
+            SpanCheck::Text,
+            0,
+            text,
+            span_bytes(chunk),
+            span_count(chunk),
+        )
+}

@@ -1,0 +1,127 @@
+// Walks over rows, spans and chunks that stand one after the other: whether each passes a test. A walk ends at the first that does not.
+use wire::place::after;
+use wire::place::from;
+use wire::read::f32_at;
+ghost use mathlib.Core.Path.{_≡_};
+ghost use lib.ListN.{drop};
+ghost use Rattle.labels.specs.Bytes.{each};
+ghost use Rattle.labels.specs.Decode.{spanSize, chunkSize};
+ghost use Rattle.job.specs.Walk.{rowSize, rowOk, spanPasses, chunkPasses};
+
+// Rows of a fixed size whose values are tested.
+pub enum RowKind {
+    Font,
+    Float,
+    Shift,
+    Glyph,
+}
+
+// What is tested of a span, and of a chunk.
+pub enum SpanCheck {
+    Shape,
+    Values,
+    Text,
+}
+
+pub enum ChunkCheck {
+    Shape,
+    Values,
+    Text,
+    Spans,
+}
+
+pub fn row_size(kind: RowKind) -> usize
+    ensures { λ r. ⌜ r ≡ rowSize kind ⌝ }
+{
+    match kind {
+        RowKind::Font => 18,
+        RowKind::Float => 4,
+        RowKind::Shift => 5,
+        RowKind::Glyph => 25,
+    }
+}
+
+// `fonts` is the font count.
+pub fn row_ok(kind: RowKind, fonts: usize, s: &[u8], at: usize) -> bool
+    ensures { λ r. ⌜ r ≡ rowOk kind fonts (drop at (now (s .entry))) ⌝ }
+{
+    match kind {
+        RowKind::Font => fields::font_ok(parts::rows::font_at(s, at)),
+        RowKind::Float => fields::float_ok(f32_at(s, at)),
+        RowKind::Shift => {
+            let number = parts::rows::shift_number_at(s, at);
+            fields::shift_ok(parts::rows::shift_kind_at(s, at), number)
+        }
+        RowKind::Glyph => fields::glyph_ok(fonts, parts::rows::glyph_at(s, at)),
+    }
+}
+
+pub fn rows_ok(kind: RowKind, fonts: usize, s: &[u8], n: usize) -> bool
+    ensures { λ r. ⌜ r ≡ each (λ b. rowSize kind) (rowOk kind fonts) n (now (s .entry)) ⌝ }
+{
+    let size = row_size(kind);
+    let mut p: usize = 0;
+    let mut left = n;
+    while 0 < left {
+        if !row_ok(kind, fonts, s, p) {
+            return false;
+        }
+        p = after(s, p, size);
+        left -= 1;
+    }
+    true
+}
+
+// `text` is the text of the span's chunk.
+pub fn span_passes(check: SpanCheck, fonts: usize, text: &[u8], span: &[u8]) -> bool
+    ensures { λ r. ⌜ r ≡ spanPasses check fonts (now (text .entry)) (now (span .entry)) ⌝ }
+{
+    match check {
+        SpanCheck::Shape => crate::shape::span_fits(span),
+        SpanCheck::Values => crate::values::parts_ok(fonts, span),
+        SpanCheck::Text => crate::text::indexes_ok(text, span),
+    }
+}
+
+pub fn spans_pass(check: SpanCheck, fonts: usize, text: &[u8], spans: &[u8], n: usize) -> bool
+    ensures { λ r. ⌜ r ≡ each spanSize (spanPasses check fonts (now (text .entry))) n (now (spans .entry)) ⌝ }
+{
+    let mut p: usize = 0;
+    let mut left = n;
+    while 0 < left {
+        let span = from(spans, p);
+        if !span_passes(check, fonts, text, span) {
+            return false;
+        }
+        p = after(spans, p, parts::sizes::span_size(span));
+        left -= 1;
+    }
+    true
+}
+
+pub fn chunk_passes(check: ChunkCheck, fonts: usize, chunk: &[u8]) -> bool
+    ensures { λ r. ⌜ r ≡ chunkPasses check fonts (now (chunk .entry)) ⌝ }
+{
+    match check {
+        ChunkCheck::Shape => crate::shape::chunk_fits(chunk),
+        ChunkCheck::Values => crate::values::chunk_ok(fonts, chunk),
+        ChunkCheck::Text => crate::text::text_ok(chunk),
+        ChunkCheck::Spans => crate::order::spans_ok(chunk),
+    }
+}
+
+pub fn chunks_pass(check: ChunkCheck, fonts: usize, chunks: &[u8], n: usize) -> bool
+    ensures { λ r. ⌜ r ≡ each chunkSize (chunkPasses check fonts) n (now (chunks .entry)) ⌝ }
+{
+    let mut p: usize = 0;
+    let mut left = n;
+    while 0 < left {
+        let chunk = from(chunks, p);
+        if !chunk_passes(check, fonts, chunk) {
+            return false;
+        }
+        p = after(chunks, p, parts::sizes::chunk_size(chunk));
+        left -= 1;
+    }
+    true
+}

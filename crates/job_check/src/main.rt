@@ -1,0 +1,42 @@
+// Prints, for each file that an argument names, its name and the number that its job is refused with; 0 where it is accepted.
+use job::check::Checked;
+use job::check::check;
+use libc::STDOUT_FILENO;
+
+// One byte more than a record may have, so that a longer one is seen to be longer.
+const ROOM: usize = 65_537;
+
+fn number(bytes: &[u8]) -> u8 {
+    match check(bytes) {
+        Checked::Accepted(_) => 0,
+        Checked::Refused(n) => n,
+    }
+}
+
+fn show_record(fd: i32) {
+    let mut buffer = [0u8; ROOM];
+    let n = io::read_full(fd, &mut buffer);
+    io::print_decimal(STDOUT_FILENO, number(&buffer[..n]) as u64);
+    io::write_all(STDOUT_FILENO, b"\n");
+}
+
+fn show_file(i: usize) {
+    let mut path = io::buffer();
+    let n = os::arg(i, &mut path);
+    let fd = os::open_read(&path[..n]);
+    if fd < 0 {
+        os::fail(&path[..n]);
+        return;
+    }
+    io::write_all(STDOUT_FILENO, &path[..n]);
+    io::write_all(STDOUT_FILENO, b" ");
+    show_record(fd);
+    libc::close(fd);
+}
+
+fn main() {
+    let end = os::arg_count();
+    for i in 1..end {
+        show_file(i);
+    }
+}

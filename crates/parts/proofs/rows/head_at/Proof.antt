@@ -1,0 +1,57 @@
+-- `parts::rows::head_at` meets its contract: field by field. Assumes nothing.
+use Rattle.parts.specs.Head.{headOf}
+use borrow.Author.Needs.{needs}
+use Rattle.parts.proofs.rows.head_at.Statement.{statement}
+use Rattle.parts.proofs.rows.head_at.Tie as tie
+
+from-requires : tie.Need-from-requires
+from-requires c κs = search needs
+
+u8-at-requires : tie.Need-u8-at-requires
+u8-at-requires c κs = search needs
+
+f32-at-requires : tie.Need-f32-at-requires
+f32-at-requires c κs = search needs
+
+f32-at-requires-2 : tie.Need-f32-at-requires-2
+f32-at-requires-2 c κs = search needs
+
+u8-at-requires-2 : tie.Need-u8-at-requires-2
+u8-at-requires-2 c κs = search needs
+
+u8-at-requires-3 : tie.Need-u8-at-requires-3
+u8-at-requires-3 c κs = search needs
+
+text-size-requires : tie.Need-text-size-requires
+text-size-requires c κs = search needs
+
+span-count-requires : tie.Need-span-count-requires
+span-count-requires c κs = search needs
+
+returns : tie.Need-returns
+unfolding headOf
+returns c =
+    rw (
+      c .before .before .before .before .before .before .u8-at .ensures,
+      c .before .before .before .before .before .f32-at .ensures,
+      c .before .before .before .before .f32-at2 .ensures,
+      c .before .before .before .u8-at2 .ensures,
+      c .before .before .u8-at3 .ensures,
+      c .before .text-size .ensures .0,
+      c .span-count .ensures .0,
+      c .before .before .before .before .before .before .before .from .ensures,
+    )
+
+pub head-at-spec : {M : Type 1} → statement M
+head-at-spec =
+    tie.close
+    (tie.spec
+    from-requires
+    u8-at-requires
+    f32-at-requires
+    f32-at-requires-2
+    u8-at-requires-2
+    u8-at-requires-3
+    text-size-requires
+    span-count-requires
+    returns)

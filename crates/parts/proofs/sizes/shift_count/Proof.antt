@@ -1,0 +1,18 @@
+-- `parts::sizes::shift_count` meets its contract. Assumes nothing.
+use Rattle.labels.specs.Decode.{shiftCount}
+use borrow.Author.Needs.{needs}
+use Rattle.parts.proofs.sizes.shift_count.Statement.{statement}
+use Rattle.parts.proofs.sizes.shift_count.Tie as tie
+
+u8-at-requires : tie.Need-u8-at-requires
+u8-at-requires c κs = search needs
+
+cast-result : tie.Need-cast-result
+cast-result c = search needs
+
+returns : tie.Need-returns
+unfolding shiftCount
+returns c = (cc, search needs)
+
+pub shift-count-spec : {M : Type 1} → statement M
+shift-count-spec = tie.close (tie.spec u8-at-requires cast-result returns)

@@ -1,0 +1,21 @@
+-- `parts::sizes::span_bytes` meets its contract. Assumes nothing.
+use Rattle.labels.specs.Decode.{spanBytes}
+use borrow.Author.Needs.{needs}
+use Rattle.parts.proofs.sizes.span_bytes.Statement.{statement}
+use Rattle.parts.proofs.sizes.span_bytes.Tie as tie
+
+spans-at-requires : tie.Need-spans-at-requires
+spans-at-requires c κs = search needs
+
+add-from : tie.Need-add-from
+add-from c = search needs
+
+from-requires : tie.Need-from-requires
+from-requires c κs = search needs
+
+returns : tie.Need-returns
+unfolding spanBytes
+returns c = cc
+
+pub span-bytes-spec : {M : Type 1} → statement M
+span-bytes-spec = tie.close (tie.spec spans-at-requires add-from from-requires returns)

@@ -1,0 +1,21 @@
+-- `parts::sizes::span_count` meets its contract. Assumes nothing.
+use Rattle.labels.specs.Decode.{spanCount}
+use borrow.Author.Needs.{needs}
+use Rattle.parts.proofs.sizes.span_count.Statement.{statement}
+use Rattle.parts.proofs.sizes.span_count.Tie as tie
+
+spans-at-requires : tie.Need-spans-at-requires
+spans-at-requires c κs = search needs
+
+u8-at-requires : tie.Need-u8-at-requires
+u8-at-requires c κs = search needs
+
+cast-result : tie.Need-cast-result
+cast-result c = search needs
+
+returns : tie.Need-returns
+unfolding spanCount
+returns c = (cc, search needs)
+
+pub span-count-spec : {M : Type 1} → statement M
+span-count-spec = tie.close (tie.spec spans-at-requires u8-at-requires cast-result returns)

@@ -1,0 +1,18 @@
+-- `parts::sizes::spans_at` meets its contract. Assumes nothing.
+use Rattle.labels.specs.Decode.{spansAt}
+use borrow.Author.Needs.{needs}
+use Rattle.parts.proofs.sizes.spans_at.Statement.{statement}
+use Rattle.parts.proofs.sizes.spans_at.Tie as tie
+
+text-size-requires : tie.Need-text-size-requires
+text-size-requires c κs = search needs
+
+add-result : tie.Need-add-result
+add-result c = search needs
+
+returns : tie.Need-returns
+unfolding spansAt
+returns c = (cc, search needs)
+
+pub spans-at-spec : {M : Type 1} → statement M
+spans-at-spec = tie.close (tie.spec text-size-requires add-result returns)

@@ -1,0 +1,18 @@
+-- `parts::sizes::text_of` meets its contract. Assumes nothing.
+use Rattle.labels.specs.Decode.{chunkOf}
+use borrow.Author.Needs.{needs}
+use Rattle.parts.proofs.sizes.text_of.Statement.{statement}
+use Rattle.parts.proofs.sizes.text_of.Tie as tie
+
+text-size-requires : tie.Need-text-size-requires
+text-size-requires c κs = search needs
+
+part-requires : tie.Need-part-requires
+part-requires c κs = search needs
+
+returns : tie.Need-returns
+unfolding chunkOf
+returns c = cc
+
+pub text-of-spec : {M : Type 1} → statement M
+text-of-spec = tie.close (tie.spec text-size-requires part-requires returns)

@@ -1,0 +1,168 @@
+// How many rows a span, a chunk and a job have, and how many bytes they take. Each function is given the bytes from its record on.
+use wire::place::after;
+use wire::place::from;
+use wire::place::part;
+use wire::read::u8_at;
+use wire::read::u16_at;
+ghost use mathlib.Core.Path.{_≡_};
+ghost use Prim.Native.Nat.{_<_, _≤_, _*_};
+ghost use Rattle.labels.specs.Bytes.{sizes};
+ghost use Rattle.labels.specs.Decode.{shiftCount, glyphsAt, glyphCount, spanSize, textSize, spansAt, spanCount, spanBytes, chunkSize, chunkOf, listSize, fontCount, dxAt, dyAt, rotateAt, chunksAt, chunkCount, chunkBytes};
+
+// ---- a span
+
+pub fn shift_count(span: &[u8]) -> usize
+    ensures { λ r. ⌜ (r ≡ shiftCount (now (span .entry))) × (r < 256) ⌝ }
+{
+    u8_at(span, 26) as usize
+}
+
+// Where the glyph count stands.
+pub fn glyphs_at(span: &[u8]) -> usize
+    ensures { λ r. ⌜ (r ≡ glyphsAt (now (span .entry))) × (r < 1_303) ⌝ }
+{
+    27 + shift_count(span) * 5
+}
+
+pub fn glyph_count(span: &[u8]) -> usize
+    ensures { λ r. ⌜ (r ≡ glyphCount (now (span .entry))) × (r < 65_536) ⌝ }
+{
+    u16_at(span, glyphs_at(span)) as usize
+}
+
+pub fn span_size(span: &[u8]) -> usize
+    ensures { λ r. ⌜ (r ≡ spanSize (now (span .entry))) × (r < 2_000_000) ⌝ }
+{
+    glyphs_at(span) + 2 + glyph_count(span) * 25
+}
+
+// `n` spans one after the other.
+pub fn spans_size(spans: &[u8], n: usize) -> usize
+    requires { ⌜ n < 256 ⌝ }
+    ensures { λ r. ⌜ (r ≡ sizes spanSize n (now (spans .entry))) × (r ≤ n * 2_000_000) ⌝ }
+{
+    let mut size: usize = 0;
+    let mut p: usize = 0;
+    let mut left = n;
+    while 0 < left {
+        let span = from(spans, p);
+        let k = span_size(span);
+        size += k;
+        p = after(spans, p, k);
+        left -= 1;
+    }
+    size
+}
+
+// ---- a chunk
+
+pub fn text_size(chunk: &[u8]) -> usize
+    ensures { λ r. ⌜ (r ≡ textSize (now (chunk .entry))) × (r < 65_536) ⌝ }
+{
+    u16_at(chunk, 11) as usize
+}
+
+// The text, as far as it is there.
+pub fn text_of(chunk: &[u8]) -> &[u8]
+    ensures { λ r. ⌜ now r ≡ chunkOf (now (chunk .entry)) .text ⌝ }
+{
+    part(chunk, 13, text_size(chunk))
+}
+
+// Where the span count stands.
+pub fn spans_at(chunk: &[u8]) -> usize
+    ensures { λ r. ⌜ (r ≡ spansAt (now (chunk .entry))) × (r < 65_549) ⌝ }
+{
+    13 + text_size(chunk)
+}
+
+pub fn span_count(chunk: &[u8]) -> usize
+    ensures { λ r. ⌜ (r ≡ spanCount (now (chunk .entry))) × (r < 256) ⌝ }
+{
+    u8_at(chunk, spans_at(chunk)) as usize
+}
+
+// The bytes from the first span on.
+pub fn span_bytes(chunk: &[u8]) -> &[u8]
+    ensures { λ r. ⌜ now r ≡ spanBytes (now (chunk .entry)) ⌝ }
+{
+    from(chunk, spans_at(chunk) + 1)
+}
+
+pub fn chunk_size(chunk: &[u8]) -> usize
+    ensures { λ r. ⌜ (r ≡ chunkSize (now (chunk .entry))) × (r < 600_000_000) ⌝ }
+{
+    spans_at(chunk) + 1 + spans_size(span_bytes(chunk), span_count(chunk))
+}
+
+// `n` chunks one after the other.
+pub fn chunks_size(chunks: &[u8], n: usize) -> usize
+    requires { ⌜ n < 256 ⌝ }
+    ensures { λ r. ⌜ (r ≡ sizes chunkSize n (now (chunks .entry))) × (r ≤ n * 600_000_000) ⌝ }
+{
+    let mut size: usize = 0;
+    let mut p: usize = 0;
+    let mut left = n;
+    while 0 < left {
+        let chunk = from(chunks, p);
+        let k = chunk_size(chunk);
+        size += k;
+        p = after(chunks, p, k);
+        left -= 1;
+    }
+    size
+}
+
+// ---- a job, given the bytes after the version
+
+pub fn list_size(list: &[u8]) -> usize
+    ensures { λ r. ⌜ (r ≡ listSize (now (list .entry))) × (r < 262_143) ⌝ }
+{
+    2 + u16_at(list, 0) as usize * 4
+}
+
+pub fn font_count(job: &[u8]) -> usize
+    ensures { λ r. ⌜ (r ≡ fontCount (now (job .entry))) × (r < 256) ⌝ }
+{
+    u8_at(job, 1) as usize
+}
+
+pub fn dx_at(job: &[u8]) -> usize
+    ensures { λ r. ⌜ (r ≡ dxAt (now (job .entry))) × (r < 4_593) ⌝ }
+{
+    2 + font_count(job) * 18
+}
+
+pub fn dy_at(job: &[u8]) -> usize
+    ensures { λ r. ⌜ (r ≡ dyAt (now (job .entry))) × (r < 300_000) ⌝ }
+{
+    let at = dx_at(job);
+    at + list_size(from(job, at))
+}
+
+pub fn rotate_at(job: &[u8]) -> usize
+    ensures { λ r. ⌜ (r ≡ rotateAt (now (job .entry))) × (r < 600_000) ⌝ }
+{
+    let at = dy_at(job);
+    at + list_size(from(job, at))
+}
+
+pub fn chunks_at(job: &[u8]) -> usize
+    ensures { λ r. ⌜ (r ≡ chunksAt (now (job .entry))) × (r < 900_000) ⌝ }
+{
+    let at = rotate_at(job);
+    at + list_size(from(job, at))
+}
+
+pub fn chunk_count(job: &[u8]) -> usize
+    ensures { λ r. ⌜ (r ≡ chunkCount (now (job .entry))) × (r < 256) ⌝ }
+{
+    u8_at(job, chunks_at(job)) as usize
+}
+
+// The bytes from the first chunk on.
+pub fn chunk_bytes(job: &[u8]) -> &[u8]
+    ensures { λ r. ⌜ now r ≡ chunkBytes (now (job .entry)) ⌝ }
+{
+    from(job, chunks_at(job) + 1)
+}

@@ -1,0 +1,5 @@
+pub mod Places
+pub mod Patterns
+pub mod Digits
+pub mod Signed
+pub mod Splice

@@ -1,0 +1,38 @@
+-- Two's complement, for every width: what the code computes is the signed number that the bytes hold. Assumes nothing.
+use Prim.Native.Nat.{ℕ, zero, suc, _+_, _-_, _*_, _^_, _≤_, _<_}
+use mathlib.Core.Path.{_≡_, refl, _∙_, ap}
+use mathlib.Core.List.{List}
+use native.Mathlib.Omega.{arith}
+use borrow.Author.Tests.{lt-ltb, le-ltb}
+use lib.IntN.{pos, negsuc, _-ℤ_}
+use mir.Syntax.{Width}
+use mir.Val.{toZ, ofZ, SFits, hbits}
+use mir.Facts.{toZ-pos, toZ-ofZ}
+use Rattle.labels.specs.Bytes.{be, signed}
+
+minus-one : (n : ℕ) → negsuc 0 -ℤ pos n ≡ negsuc n
+minus-one zero = refl
+minus-one (suc n) = ap negsuc (omega arith)
+
+module _ (w : Width) (n : ℕ) (h : n < 2 ^ hbits w) where
+  -- minus one less a number that fits
+  less : negsuc 0 -ℤ toZ w n ≡ negsuc n
+  less = rw (toZ-pos w h) (minus-one n)
+
+  pub less-fits : SFits w (negsuc 0 -ℤ toZ w n)
+  less-fits = rw less (record { sfits = h })
+
+  less-back : toZ w (ofZ w (negsuc 0 -ℤ toZ w n)) ≡ negsuc n
+  less-back = toZ-ofZ less-fits ∙ less
+
+-- the k bytes hold n
+module _ (w : Width) (k : ℕ) (bs : List ℕ) (n : ℕ) (e : n ≡ be k bs) where
+  pub signed-low : n < 2 ^ hbits w → n < 2 ^ (8 * k - 1) → toZ w n ≡ signed k bs
+  unfolding signed
+  signed-low h i = rw (← e, lt-ltb n (2 ^ (8 * k - 1)) i) (toZ-pos w h)
+
+  pub signed-high : (m : ℕ) → m < 2 ^ hbits w → 2 ^ (8 * k - 1) ≤ n → m + suc n ≡ 2 ^ (8 * k) → toZ w (ofZ w (negsuc 0 -ℤ toZ w m)) ≡ signed k bs
+  unfolding signed
+  signed-high m h i f =
+      let m-is : m ≡ 2 ^ (8 * k) - suc n = omega arith in
+      rw (← e, le-ltb n (2 ^ (8 * k - 1)) i, lt-ltb n (2 ^ (8 * k)) (omega arith)) (less-back w m h ∙ ap negsuc m-is)

@@ -1,0 +1,38 @@
+// Parts of a slice that are cut off at its end, so that every place can be asked for.
+ghost use mathlib.Core.Path.{_≡_};
+ghost use lib.ListN.{take, drop};
+
+// The slice from `at` on.
+pub fn from(s: &[u8], at: usize) -> &[u8]
+    ensures { λ r. ⌜ now r ≡ drop at (now (s .entry)) ⌝ }
+{
+    if at <= s.len() {
+        return &s[at..];
+    }
+    let end = s.len();
+    &s[end..]
+}
+
+// The `n` bytes from `at` on.
+pub fn part(s: &[u8], at: usize, n: usize) -> &[u8]
+    ensures { λ r. ⌜ now r ≡ take n (drop at (now (s .entry))) ⌝ }
+{
+    let rest = from(s, at);
+    if n <= rest.len() {
+        return &rest[..n];
+    }
+    rest
+}
+
+// The place `size` bytes after `at`.
+pub fn after(s: &[u8], at: usize, size: usize) -> usize
+    ensures { λ r. ⌜ drop r (now (s .entry)) ≡ drop size (drop at (now (s .entry))) ⌝ }
+{
+    if s.len() < at {
+        return s.len();
+    }
+    if s.len() - at < size {
+        return s.len();
+    }
+    at + size
+}
