@@ -1,16 +1,36 @@
 -- The answer says what the definitions' `checked` does: it is accepted exactly where that gives a job, and refused under the number
--- that that refuses with. Assumes nothing.
-use Prim.Native.Nat.{ℕ}
+-- that that refuses with, from 1 to 6. Assumes nothing.
+use Prim.Native.Nat.{ℕ, _<_, _≤_}
 use mathlib.Core.Path.{_≡_, refl, ap}
-use mathlib.Core.List.{List}
+use mathlib.Core.Bool.{Bool, true, false, cond}
+use mathlib.Core.List.{List, [], _∷_}
 use native.Mathlib.Omega.{arith}
+use borrow.Author.Needs.{needs}
 use Rattle.labels.specs.Outcome.{Outcome, refused, given, andThen}
 use Rattle.labels.specs.Job as J
 use Rattle.labels.specs.Decode.{jobOf}
-use Rattle.labels.specs.Check.{checks, firstFailing, checked, afterVersion}
+use Rattle.labels.specs.Check.{Check, checks, firstFailing, checked, afterVersion}
 use Rattle.labels.specs.declared.Job.{Job}
 use Rattle.job.specs.Answer.{numberOf, placesOf, answerAfter, answerOf}
 use Rattle.job.specs.declared.check.Checked.the-variants.{Accepted, Refused}
+
+-- the numbers of the checks lie from 1 to 6, and so does that of the first that fails
+Numbered : List Check → Type 0
+Numbered [] = Unit {0}
+Numbered (c ∷ cs) = (0 < c .number) × (c .number ≤ 6) × Numbered cs
+
+first-numbered : (cs : List Check) (bs : List ℕ) (n : ℕ) → Numbered cs → firstFailing cs bs ≡ refused n → (0 < n) × (n ≤ 6)
+unfolding firstFailing Numbered
+first-numbered [] bs n h e = let z : _≡_ {A = ℕ} 0 1 = cc in absurd (omega arith)
+first-numbered (c ∷ cs) bs n h e = go (first-numbered cs bs n (h .2)) (c .passes bs) e
+  where
+    go : (firstFailing cs bs ≡ refused n → (0 < n) × (n ≤ 6)) → (passes : Bool) → cond passes (firstFailing cs bs) (refused (c .number)) ≡ refused n → (0 < n) × (n ≤ 6)
+    go rest true e = rest e
+    go rest false e = let same : c .number ≡ n = cc in (omega arith, omega arith)
+
+numbered : Numbered checks
+unfolding Numbered checks
+numbered = search needs
 
 -- what `checked` and the answer make of the first check that fails
 module _ (bs : List ℕ) where
@@ -32,10 +52,10 @@ module _ (bs : List ℕ) where
   answer-given (refused n) p e = let z : _≡_ {A = ℕ} 0 1 = cc in absurd (omega arith)
   answer-given (given u) p e = refl
 
-  answer-refused : (o : Outcome (Unit {0})) (n : ℕ) → answerAfter o bs ≡ Refused n → after o ≡ refused n
-  unfolding andThen answerAfter
-  answer-refused (refused m) n e = let same : m ≡ n = cc in ap refused same
-  answer-refused (given u) n e = let z : _≡_ {A = ℕ} 0 1 = cc in absurd (omega arith)
+  first-refused : (o : Outcome (Unit {0})) (n : ℕ) → answerAfter o bs ≡ Refused n → o ≡ refused n
+  unfolding answerAfter
+  first-refused (refused m) n e = let same : m ≡ n = cc in ap refused same
+  first-refused (given u) n e = let z : _≡_ {A = ℕ} 0 1 = cc in absurd (omega arith)
 
   pub accepted-where-given : (j : J.Job) → checked bs ≡ given j → answerOf bs ≡ Accepted (placesOf bs)
   unfolding checked answerOf
@@ -50,8 +70,8 @@ module _ (bs : List ℕ) where
   given-where-accepted = answer-given (firstFailing checks bs)
 
   pub refusal-where-refused : (n : ℕ) → answerOf bs ≡ Refused n → checked bs ≡ refused n
-  unfolding checked answerOf
-  refusal-where-refused = answer-refused (firstFailing checks bs)
+  unfolding checked answerOf andThen
+  refusal-where-refused n e = ap after (first-refused (firstFailing checks bs) n e)
 
   -- document 01's number
   pub number-where-given : (j : J.Job) → checked bs ≡ given j → numberOf (answerOf bs) ≡ 0
@@ -61,3 +81,17 @@ module _ (bs : List ℕ) where
   pub number-where-refused : (n : ℕ) → checked bs ≡ refused n → numberOf (answerOf bs) ≡ n
   unfolding numberOf
   number-where-refused n e = ap numberOf (refused-where-refused n e)
+
+  -- a refusal has a number from 1 to 6, so 0 says that the job is accepted
+  pub refusal-numbered : (n : ℕ) → answerOf bs ≡ Refused n → (0 < n) × (n ≤ 6)
+  unfolding answerOf
+  refusal-numbered n e = first-numbered checks bs n numbered (first-refused (firstFailing checks bs) n e)
+
+  zero-accepted : (o : Outcome (Unit {0})) → ((n : ℕ) → o ≡ refused n → (0 < n) × (n ≤ 6)) → numberOf (answerAfter o bs) ≡ 0 → answerAfter o bs ≡ Accepted (placesOf bs)
+  unfolding numberOf answerAfter
+  zero-accepted (refused n) h e = absurd (omega (arith, h n refl .0))
+  zero-accepted (given u) h e = refl
+
+  pub accepted-where-zero : numberOf (answerOf bs) ≡ 0 → answerOf bs ≡ Accepted (placesOf bs)
+  unfolding answerOf
+  accepted-where-zero = zero-accepted (firstFailing checks bs) (λ n. first-numbered checks bs n numbered)

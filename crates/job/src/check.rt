@@ -19,7 +19,14 @@ ghost use mathlib.Core.Path.{_≡_};
 ghost use Rattle.labels.specs.Lists.{all};
 ghost use Rattle.labels.specs.Decode.{jobOf};
 ghost use Rattle.labels.specs.Check.{lengthOk, versionOk, textOk, spansOk};
-ghost use Rattle.job.specs.Answer.{placesOf, answerOf};
+ghost use Rattle.job.specs.Answer.{numberOf, placesOf, answerOf};
+
+// Where the version stands, behind the length field; the version that the program reads; and where the job's own fields begin.
+pub const VERSION_AT: usize = 4;
+
+pub const JOB_VERSION: u8 = 1;
+
+pub const AFTER_VERSION: usize = VERSION_AT + 1;
 
 // The job that a record holds, or the number of the first check that the record does not pass.
 pub enum Checked {
@@ -30,17 +37,17 @@ pub enum Checked {
 pub fn length_ok(bytes: &[u8]) -> bool
     ensures { λ r. ⌜ r ≡ lengthOk (now (bytes .entry)) ⌝ }
 {
-    if bytes.len() < 5 {
+    if bytes.len() < AFTER_VERSION {
         return false;
     }
-    let rest = bytes.len() - 4;
+    let rest = bytes.len() - VERSION_AT;
     (bytes.len() <= Job::BYTES) & (u32_at(bytes, 0) as usize == rest)
 }
 
 pub fn version_ok(bytes: &[u8]) -> bool
     ensures { λ r. ⌜ r ≡ versionOk (now (bytes .entry)) ⌝ }
 {
-    byte_at(bytes, 4) == 1
+    byte_at(bytes, VERSION_AT) == JOB_VERSION
 }
 
 // `job` is what follows the version, here and below.
@@ -60,14 +67,14 @@ pub fn orders_ok(job: &[u8]) -> bool
 pub fn places(bytes: &[u8]) -> Job
     ensures { λ r. ⌜ r ≡ placesOf (now (bytes .entry)) ⌝ }
 {
-    let job = from(bytes, 5);
+    let job = from(bytes, AFTER_VERSION);
     Job {
         mode: u8_at(job, 0),
         fonts: font_count(job),
-        dx: 5 + dx_at(job),
-        dy: 5 + dy_at(job),
-        rotate: 5 + rotate_at(job),
-        chunks: 5 + chunks_at(job),
+        dx: AFTER_VERSION + dx_at(job),
+        dy: AFTER_VERSION + dy_at(job),
+        rotate: AFTER_VERSION + rotate_at(job),
+        chunks: AFTER_VERSION + chunks_at(job),
     }
 }
 
@@ -80,7 +87,7 @@ pub fn check(bytes: &[u8]) -> Checked
     if !version_ok(bytes) {
         return Checked::Refused(2);
     }
-    let job = from(bytes, 5);
+    let job = from(bytes, AFTER_VERSION);
     if !is_shaped(job) {
         return Checked::Refused(3);
     }
@@ -94,4 +101,14 @@ pub fn check(bytes: &[u8]) -> Checked
         return Checked::Refused(6);
     }
     Checked::Accepted(places(bytes))
+}
+
+// Document 01's number for a record: 0 where its job is accepted.
+pub fn number(bytes: &[u8]) -> u8
+    ensures { λ r. ⌜ r ≡ numberOf (answerOf (now (bytes .entry))) ⌝ }
+{
+    match check(bytes) {
+        Checked::Accepted(_) => 0,
+        Checked::Refused(n) => n,
+    }
 }

@@ -4,6 +4,8 @@ use crate::walk::SpanCheck;
 use crate::walk::chunks_pass;
 use crate::walk::spans_pass;
 use labels::Job;
+use parts::sizes::CHUNK_COUNT_BYTES;
+use parts::sizes::SPAN_COUNT_BYTES;
 use parts::sizes::chunk_bytes;
 use parts::sizes::chunk_count;
 use parts::sizes::chunks_at;
@@ -41,7 +43,10 @@ pub fn chunk_fits(chunk: &[u8]) -> bool
     let n = span_count(chunk);
     let spans = span_bytes(chunk);
     let fit = spans_pass(SpanCheck::Shape, 0, text_of(chunk), spans, n);
-    (text_size(chunk) <= Job::TEXT) & (n <= Job::SPANS) & (spans_at(chunk) + 1 <= chunk.len()) & fit
+    (text_size(chunk) <= Job::TEXT)
+        & (n <= Job::SPANS)
+        & (spans_at(chunk) + SPAN_COUNT_BYTES <= chunk.len())
+        & fit
 }
 
 pub fn list_fits(list: &[u8]) -> bool
@@ -73,5 +78,5 @@ pub fn is_shaped(job: &[u8]) -> bool
     if !chunks_pass(ChunkCheck::Shape, 0, chunks, n) {
         return false;
     }
-    chunks_at(job) + 1 + chunks_size(chunks, n) == job.len()
+    chunks_at(job) + CHUNK_COUNT_BYTES + chunks_size(chunks, n) == job.len()
 }

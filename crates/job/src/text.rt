@@ -3,6 +3,8 @@ use crate::walk::SpanCheck;
 use crate::walk::spans_pass;
 use fields::utf8::is_utf8;
 use fields::utf8::starts_at;
+use parts::sizes::GLYPH_BYTES;
+use parts::sizes::GLYPH_COUNT_BYTES;
 use parts::sizes::glyph_count;
 use parts::sizes::glyphs_at;
 use parts::sizes::span_bytes;
@@ -28,7 +30,7 @@ pub fn rows_start(text: &[u8], glyphs: &[u8], n: usize) -> bool
         if !starts_at(text, g.index as usize) {
             return false;
         }
-        p = after(glyphs, p, 25);
+        p = after(glyphs, p, GLYPH_BYTES);
         left -= 1;
     }
     true
@@ -38,7 +40,7 @@ pub fn rows_start(text: &[u8], glyphs: &[u8], n: usize) -> bool
 pub fn indexes_ok(text: &[u8], span: &[u8]) -> bool
     ensures { λ r. ⌜ r ≡ all (indexOk (now (text .entry))) (partsOf (now (span .entry)) .glyphs) ⌝ }
 {
-    let glyphs = from(span, glyphs_at(span) + 2);
+    let glyphs = from(span, glyphs_at(span) + GLYPH_COUNT_BYTES);
     rows_start(text, glyphs, glyph_count(span))
 }
 

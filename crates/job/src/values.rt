@@ -10,6 +10,10 @@ use fields::flagged_ok;
 use fields::span_ok;
 use parts::rows::head_at;
 use parts::rows::span_at;
+use parts::sizes::FONTS_AT;
+use parts::sizes::GLYPH_COUNT_BYTES;
+use parts::sizes::LIST_COUNT_BYTES;
+use parts::sizes::SHIFTS_AT;
 use parts::sizes::chunk_bytes;
 use parts::sizes::chunk_count;
 use parts::sizes::dx_at;
@@ -36,8 +40,8 @@ pub fn parts_ok(fonts: usize, span: &[u8]) -> bool
 {
     let head = span_at(span, 0);
     let n = glyph_count(span);
-    let shifts = from(span, 27);
-    let glyphs = from(span, glyphs_at(span) + 2);
+    let shifts = from(span, SHIFTS_AT);
+    let glyphs = from(span, glyphs_at(span) + GLYPH_COUNT_BYTES);
     span_ok(fonts, head)
         & (!(head.font == NO_FONT) | (n == 0))
         & rows_ok(RowKind::Shift, fonts, shifts, shift_count(span))
@@ -67,7 +71,7 @@ pub fn list_ok(list: &[u8]) -> bool
     ensures { λ r. ⌜ r ≡ all floatOk (listOf (now (list .entry))) ⌝ }
 {
     let n = u16_at(list, 0) as usize;
-    rows_ok(RowKind::Float, 0, from(list, 2), n)
+    rows_ok(RowKind::Float, 0, from(list, LIST_COUNT_BYTES), n)
 }
 
 // The lists dx, dy and rotate.
@@ -85,7 +89,7 @@ pub fn values_ok(job: &[u8]) -> bool
 {
     let fonts = font_count(job);
     (u8_at(job, 0) <= 1)
-        & rows_ok(RowKind::Font, fonts, from(job, 2), fonts)
+        & rows_ok(RowKind::Font, fonts, from(job, FONTS_AT), fonts)
         & lists_ok(job)
         & chunks_pass(
             ChunkCheck::Values,

@@ -1,4 +1,8 @@
 // Walks over rows, spans and chunks that stand one after the other: whether each passes a test. A walk ends at the first that does not.
+use parts::sizes::FLOAT_SIZE;
+use parts::sizes::FONT_BYTES;
+use parts::sizes::GLYPH_BYTES;
+use parts::sizes::SHIFT_BYTES;
 use wire::place::after;
 use wire::place::from;
 use wire::read::f32_at;
@@ -34,10 +38,10 @@ pub fn row_size(kind: RowKind) -> usize
     ensures { λ r. ⌜ r ≡ rowSize kind ⌝ }
 {
     match kind {
-        RowKind::Font => 18,
-        RowKind::Float => 4,
-        RowKind::Shift => 5,
-        RowKind::Glyph => 25,
+        RowKind::Font => FONT_BYTES,
+        RowKind::Float => FLOAT_SIZE,
+        RowKind::Shift => SHIFT_BYTES,
+        RowKind::Glyph => GLYPH_BYTES,
     }
 }
 

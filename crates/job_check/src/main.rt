@@ -1,17 +1,9 @@
 // Prints, for each file that an argument names, its name and the number that its job is refused with; 0 where it is accepted.
-use job::check::Checked;
-use job::check::check;
+use job::check::number;
 use libc::STDOUT_FILENO;
 
 // One byte more than a record may have, so that a longer one is seen to be longer.
 const ROOM: usize = 65_537;
-
-fn number(bytes: &[u8]) -> u8 {
-    match check(bytes) {
-        Checked::Accepted(_) => 0,
-        Checked::Refused(n) => n,
-    }
-}
 
 fn show_record(fd: i32) {
     let mut buffer = [0u8; ROOM];

@@ -9,19 +9,54 @@ ghost use Prim.Native.Nat.{_<_, _≤_, _*_};
 ghost use Rattle.labels.specs.Bytes.{sizes};
 ghost use Rattle.labels.specs.Decode.{shiftCount, glyphsAt, glyphCount, spanSize, textSize, spansAt, spanCount, spanBytes, chunkSize, chunkOf, listSize, fontCount, dxAt, dyAt, rotateAt, chunksAt, chunkCount, chunkBytes};
 
+// ---- sizes and places of a record's parts, in the definitions' words where they have a name for them
+
+// How many bytes a row has.
+pub const FONT_BYTES: usize = 18;
+
+pub const GLYPH_BYTES: usize = 25;
+
+pub const SHIFT_BYTES: usize = 5;
+
+pub const FLOAT_SIZE: usize = 4;
+
+// How many bytes a count has: of a list's floats, of the chunks, of a chunk's spans, of a span's glyphs.
+pub const LIST_COUNT_BYTES: usize = 2;
+
+pub const CHUNK_COUNT_BYTES: usize = 1;
+
+pub const SPAN_COUNT_BYTES: usize = 1;
+
+pub const GLYPH_COUNT_BYTES: usize = 2;
+
+// Where the font count and the fonts stand, in the bytes after the version.
+pub const FONT_COUNT_AT: usize = 1;
+
+pub const FONTS_AT: usize = FONT_COUNT_AT + 1;
+
+// Where a chunk's text length and its text stand.
+pub const TEXT_AT: usize = 11;
+
+pub const TEXT_BYTES_AT: usize = TEXT_AT + 2;
+
+// Where a span's shift count and its shifts stand.
+pub const SHIFT_COUNT_AT: usize = 26;
+
+pub const SHIFTS_AT: usize = SHIFT_COUNT_AT + 1;
+
 // ---- a span
 
 pub fn shift_count(span: &[u8]) -> usize
     ensures { λ r. ⌜ (r ≡ shiftCount (now (span .entry))) × (r < 256) ⌝ }
 {
-    u8_at(span, 26) as usize
+    u8_at(span, SHIFT_COUNT_AT) as usize
 }
 
 // Where the glyph count stands.
 pub fn glyphs_at(span: &[u8]) -> usize
     ensures { λ r. ⌜ (r ≡ glyphsAt (now (span .entry))) × (r < 1_303) ⌝ }
 {
-    27 + shift_count(span) * 5
+    SHIFTS_AT + shift_count(span) * SHIFT_BYTES
 }
 
 pub fn glyph_count(span: &[u8]) -> usize
@@ -33,7 +68,7 @@ pub fn glyph_count(span: &[u8]) -> usize
 pub fn span_size(span: &[u8]) -> usize
     ensures { λ r. ⌜ (r ≡ spanSize (now (span .entry))) × (r < 2_000_000) ⌝ }
 {
-    glyphs_at(span) + 2 + glyph_count(span) * 25
+    glyphs_at(span) + GLYPH_COUNT_BYTES + glyph_count(span) * GLYPH_BYTES
 }
 
 // `n` spans one after the other.
@@ -59,21 +94,21 @@ pub fn spans_size(spans: &[u8], n: usize) -> usize
 pub fn text_size(chunk: &[u8]) -> usize
     ensures { λ r. ⌜ (r ≡ textSize (now (chunk .entry))) × (r < 65_536) ⌝ }
 {
-    u16_at(chunk, 11) as usize
+    u16_at(chunk, TEXT_AT) as usize
 }
 
 // The text, as far as it is there.
 pub fn text_of(chunk: &[u8]) -> &[u8]
     ensures { λ r. ⌜ now r ≡ chunkOf (now (chunk .entry)) .text ⌝ }
 {
-    part(chunk, 13, text_size(chunk))
+    part(chunk, TEXT_BYTES_AT, text_size(chunk))
 }
 
 // Where the span count stands.
 pub fn spans_at(chunk: &[u8]) -> usize
     ensures { λ r. ⌜ (r ≡ spansAt (now (chunk .entry))) × (r < 65_549) ⌝ }
 {
-    13 + text_size(chunk)
+    TEXT_BYTES_AT + text_size(chunk)
 }
 
 pub fn span_count(chunk: &[u8]) -> usize
@@ -86,13 +121,13 @@ pub fn span_count(chunk: &[u8]) -> usize
 pub fn span_bytes(chunk: &[u8]) -> &[u8]
     ensures { λ r. ⌜ now r ≡ spanBytes (now (chunk .entry)) ⌝ }
 {
-    from(chunk, spans_at(chunk) + 1)
+    from(chunk, spans_at(chunk) + SPAN_COUNT_BYTES)
 }
 
 pub fn chunk_size(chunk: &[u8]) -> usize
     ensures { λ r. ⌜ (r ≡ chunkSize (now (chunk .entry))) × (r < 600_000_000) ⌝ }
 {
-    spans_at(chunk) + 1 + spans_size(span_bytes(chunk), span_count(chunk))
+    spans_at(chunk) + SPAN_COUNT_BYTES + spans_size(span_bytes(chunk), span_count(chunk))
 }
 
 // `n` chunks one after the other.
@@ -118,40 +153,40 @@ pub fn chunks_size(chunks: &[u8], n: usize) -> usize
 pub fn list_size(list: &[u8]) -> usize
     ensures { λ r. ⌜ (r ≡ listSize (now (list .entry))) × (r < 262_143) ⌝ }
 {
-    2 + u16_at(list, 0) as usize * 4
+    LIST_COUNT_BYTES + u16_at(list, 0) as usize * FLOAT_SIZE
 }
 
 pub fn font_count(job: &[u8]) -> usize
     ensures { λ r. ⌜ (r ≡ fontCount (now (job .entry))) × (r < 256) ⌝ }
 {
-    u8_at(job, 1) as usize
+    u8_at(job, FONT_COUNT_AT) as usize
 }
 
 pub fn dx_at(job: &[u8]) -> usize
     ensures { λ r. ⌜ (r ≡ dxAt (now (job .entry))) × (r < 4_593) ⌝ }
 {
-    2 + font_count(job) * 18
+    FONTS_AT + font_count(job) * FONT_BYTES
 }
 
 pub fn dy_at(job: &[u8]) -> usize
     ensures { λ r. ⌜ (r ≡ dyAt (now (job .entry))) × (r < 300_000) ⌝ }
 {
-    let at = dx_at(job);
-    at + list_size(from(job, at))
+    let dx = dx_at(job);
+    dx + list_size(from(job, dx))
 }
 
 pub fn rotate_at(job: &[u8]) -> usize
     ensures { λ r. ⌜ (r ≡ rotateAt (now (job .entry))) × (r < 600_000) ⌝ }
 {
-    let at = dy_at(job);
-    at + list_size(from(job, at))
+    let dy = dy_at(job);
+    dy + list_size(from(job, dy))
 }
 
 pub fn chunks_at(job: &[u8]) -> usize
     ensures { λ r. ⌜ (r ≡ chunksAt (now (job .entry))) × (r < 900_000) ⌝ }
 {
-    let at = rotate_at(job);
-    at + list_size(from(job, at))
+    let rotate = rotate_at(job);
+    rotate + list_size(from(job, rotate))
 }
 
 pub fn chunk_count(job: &[u8]) -> usize
@@ -164,5 +199,5 @@ pub fn chunk_count(job: &[u8]) -> usize
 pub fn chunk_bytes(job: &[u8]) -> &[u8]
     ensures { λ r. ⌜ now r ≡ chunkBytes (now (job .entry)) ⌝ }
 {
-    from(job, chunks_at(job) + 1)
+    from(job, chunks_at(job) + CHUNK_COUNT_BYTES)
 }

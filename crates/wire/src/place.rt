@@ -1,6 +1,7 @@
 // Parts of a slice that are cut off at its end, so that every place can be asked for.
 ghost use mathlib.Core.Path.{_≡_};
-ghost use lib.ListN.{take, drop};
+ghost use Prim.Native.Nat.{_≤_};
+ghost use lib.ListN.{length, take, drop};
 
 // The slice from `at` on.
 pub fn from(s: &[u8], at: usize) -> &[u8]
@@ -24,9 +25,9 @@ pub fn part(s: &[u8], at: usize, n: usize) -> &[u8]
     rest
 }
 
-// The place `size` bytes after `at`.
+// The place `size` bytes after `at`, or the end.
 pub fn after(s: &[u8], at: usize, size: usize) -> usize
-    ensures { λ r. ⌜ drop r (now (s .entry)) ≡ drop size (drop at (now (s .entry))) ⌝ }
+    ensures { λ r. ⌜ (drop r (now (s .entry)) ≡ drop size (drop at (now (s .entry)))) × (r ≤ length (now (s .entry))) ⌝ }
 {
     if s.len() < at {
         return s.len();

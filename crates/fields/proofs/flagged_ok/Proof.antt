@@ -1,4 +1,5 @@
 -- `fields::flagged_ok` meets its contract. Assumes nothing.
+use mathlib.Core.Path.{refl}
 use Rattle.labels.specs.Check.{flaggedOk}
 use Rattle.labels.specs.Single.{isZeroBits}
 use borrow.Author.Needs.{needs}
@@ -17,7 +18,7 @@ bits-of-requires c κs = search needs
 
 returns-2 : tie.Need-returns-2
 unfolding flaggedOk isZeroBits
-returns-2 c = rw (c .before .if1 .left, c .bits-of .ensures)
+returns-2 c = rw (c .before .if1 .left, c .bits-of .ensures) refl
 
 pub flagged-ok-spec : {M : Type 1} → statement M
 flagged-ok-spec = tie.close (tie.spec float-ok-requires returns bits-of-requires returns-2)

@@ -1,4 +1,5 @@
 -- `fields::font_ok` meets its contract. Assumes nothing.
+use mathlib.Core.Path.{refl}
 use Rattle.labels.specs.Check.{fontOk}
 use Rattle.labels.specs.Lists.{every}
 use mathlib.Core.Bool.{and-assoc, and-true}
@@ -7,7 +8,7 @@ use Rattle.fields.proofs.font_ok.Tie as tie
 
 returns : tie.Need-returns
 unfolding fontOk every
-returns c = simp (and-assoc, and-true)
+returns c = simp (and-assoc, and-true) refl
 
 pub font-ok-spec : {M : Type 1} → statement M
 font-ok-spec = tie.close (tie.spec returns)

@@ -1,4 +1,5 @@
 -- `fields::glyph_ok` meets its contract. Assumes nothing.
+use mathlib.Core.Path.{refl}
 use mir.Syntax.{w32}
 use mir.Facts.{toZ-ofZ}
 use Rattle.labels.specs.Check.{glyphOk}
@@ -33,7 +34,7 @@ returns c =
       toZ-ofZ {w = w32} {z = g .dy} (record { sfits = told .1 .0 .1 }),
       toZ-ofZ {w = w32} {z = g .width} (record { sfits = told .1 .1 .0 .1 }),
     )
-    (simp (and-assoc, and-true))
+    (simp (and-assoc, and-true) refl)
 
 pub glyph-ok-spec : {M : Type 1} → statement M
 glyph-ok-spec =

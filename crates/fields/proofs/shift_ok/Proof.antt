@@ -1,4 +1,5 @@
 -- `fields::shift_ok` meets its contract. Assumes nothing.
+use mathlib.Core.Path.{refl}
 use Rattle.labels.specs.Check.{shiftOk}
 use Rattle.labels.specs.Lists.{every}
 use mathlib.Core.Bool.{and-true}
@@ -11,7 +12,7 @@ flagged-ok-requires c κs = search needs
 
 returns : tie.Need-returns
 unfolding shiftOk every
-returns c = rw (c .flagged-ok .ensures) (simp and-true)
+returns c = rw (← c .flagged-ok .ensures) (simp and-true refl)
 
 pub shift-ok-spec : {M : Type 1} → statement M
 shift-ok-spec = tie.close (tie.spec flagged-ok-requires returns)

@@ -1,4 +1,5 @@
 -- `fields::span_ok` meets its contract. Assumes nothing.
+use mathlib.Core.Path.{refl}
 use Rattle.labels.specs.Check.{spanOk}
 use Rattle.labels.specs.Lists.{every}
 use mathlib.Core.Bool.{and-assoc, and-true}
@@ -30,7 +31,7 @@ returns c =
       c .before .before .before .before .before .before .before .float-ok2 .ensures,
       c .before .before .before .before .flagged-ok .ensures,
     )
-    (simp (and-assoc, and-true))
+    (simp (and-assoc, and-true) refl)
 
 pub span-ok-spec : {M : Type 1} → statement M
 span-ok-spec =

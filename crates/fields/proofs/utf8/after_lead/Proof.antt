@@ -1,4 +1,5 @@
 -- `fields::utf8::after_lead` meets its contract: test by test. Assumes nothing.
+use mathlib.Core.Path.{refl}
 use borrow.Author.Tests.{lt-ltb, le-ltb, eq-eqb, ne-eqb}
 use Rattle.labels.specs.Utf8.{lead}
 use Rattle.fields.proofs.utf8.after_lead.Statement.{statement}
@@ -8,8 +9,7 @@ returns : tie.Need-returns
 unfolding lead
 returns c =
     let b = c .before .args .b in
-    rw
-    (lt-ltb b 128 (c .if1 .taken))
+    rw (lt-ltb b 128 (c .if1 .taken)) refl
 
 returns-2 : tie.Need-returns-2
 unfolding lead
@@ -19,6 +19,7 @@ returns-2 c =
       le-ltb b 128 (c .before .if1 .left),
       c .if2 .taken,
     )
+    refl
 
 returns-3 : tie.Need-returns-3
 unfolding lead
@@ -29,6 +30,7 @@ returns-3 c =
       c .before .if2 .left,
       eq-eqb b 224 (c .if3 .taken),
     )
+    refl
 
 returns-4 : tie.Need-returns-4
 unfolding lead
@@ -40,6 +42,7 @@ returns-4 c =
       ne-eqb b 224 (c .before .if3 .left),
       eq-eqb b 237 (c .if4 .taken),
     )
+    refl
 
 returns-5 : tie.Need-returns-5
 unfolding lead
@@ -52,6 +55,7 @@ returns-5 c =
       ne-eqb b 237 (c .before .if4 .left),
       c .if5 .taken,
     )
+    refl
 
 returns-6 : tie.Need-returns-6
 unfolding lead
@@ -65,6 +69,7 @@ returns-6 c =
       c .before .if5 .left,
       eq-eqb b 240 (c .if6 .taken),
     )
+    refl
 
 returns-7 : tie.Need-returns-7
 unfolding lead
@@ -79,6 +84,7 @@ returns-7 c =
       ne-eqb b 240 (c .before .if6 .left),
       c .if7 .taken,
     )
+    refl
 
 returns-8 : tie.Need-returns-8
 unfolding lead
@@ -94,6 +100,7 @@ returns-8 c =
       c .before .if7 .left,
       eq-eqb b 244 (c .if8 .taken),
     )
+    refl
 
 returns-9 : tie.Need-returns-9
 unfolding lead
@@ -109,6 +116,7 @@ returns-9 c =
       c .before .if7 .left,
       ne-eqb b 244 (c .if8 .left),
     )
+    refl
 
 pub after-lead-spec : {M : Type 1} → statement M
 after-lead-spec =

@@ -1,4 +1,5 @@
 -- `fields::utf8::starts_at` meets its contract. Assumes nothing.
+use mathlib.Core.Path.{refl}
 use Rattle.labels.specs.Utf8.{startsAt}
 use borrow.Author.Needs.{needs}
 use Rattle.fields.proofs.utf8.starts_at.Statement.{statement}
@@ -9,7 +10,7 @@ byte-at-requires c κs = search needs
 
 returns : tie.Need-returns
 unfolding startsAt
-returns c = rw (c .byte-at .ensures)
+returns c = rw (c .byte-at .ensures) refl
 
 pub starts-at-spec : {M : Type 1} → statement M
 starts-at-spec = tie.close (tie.spec byte-at-requires returns)

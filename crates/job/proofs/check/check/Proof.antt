@@ -2,6 +2,7 @@
 use borrow.Author.Tests.{not-true, not-false}
 use Rattle.labels.specs.Check.{checks, firstFailing}
 use Rattle.job.specs.Answer.{answerAfter, answerOf}
+use mathlib.Core.Path.{refl}
 use borrow.Author.Needs.{needs}
 use Rattle.job.proofs.check.check.Statement.{statement}
 use Rattle.job.proofs.check.check.Tie as tie
@@ -16,6 +17,7 @@ returns c =
       ← c .before .length-ok .ensures,
       not-true (c .before .length-ok .result) (c .if1 .taken),
     )
+    refl
 
 version-ok-requires : tie.Need-version-ok-requires
 version-ok-requires c κs = search needs
@@ -29,6 +31,7 @@ returns-2 c =
       ← c .before .version-ok .ensures,
       not-true (c .before .version-ok .result) (c .if2 .taken),
     )
+    refl
 
 from-requires : tie.Need-from-requires
 from-requires c κs = search needs
@@ -48,6 +51,7 @@ returns-3 c =
       ← c .before .is-shaped .ensures,
       not-true (c .before .is-shaped .result) (c .if3 .taken),
     )
+    refl
 
 values-ok-requires : tie.Need-values-ok-requires
 values-ok-requires c κs = search needs
@@ -66,6 +70,7 @@ returns-4 c =
       ← c .before .values-ok .ensures,
       not-true (c .before .values-ok .result) (c .if4 .taken),
     )
+    refl
 
 texts-ok-requires : tie.Need-texts-ok-requires
 texts-ok-requires c κs = search needs
@@ -86,6 +91,7 @@ returns-5 c =
       ← c .before .texts-ok .ensures,
       not-true (c .before .texts-ok .result) (c .if5 .taken),
     )
+    refl
 
 orders-ok-requires : tie.Need-orders-ok-requires
 orders-ok-requires c κs = search needs
@@ -108,6 +114,7 @@ returns-6 c =
       ← c .before .orders-ok .ensures,
       not-true (c .before .orders-ok .result) (c .if6 .taken),
     )
+    refl
 
 places-requires : tie.Need-places-requires
 places-requires c κs = search needs
@@ -131,6 +138,7 @@ returns-7 c =
       not-false (c .before .before .orders-ok .result) (c .before .if6 .left),
       ← c .places .ensures,
     )
+    refl
 
 pub check-spec : {M : Type 1} → statement M
 check-spec =

@@ -1,5 +1,6 @@
 -- `job::check::places` meets its contract. Assumes nothing.
 use Rattle.job.specs.Answer.{placesOf}
+use mathlib.Core.Path.{refl}
 use borrow.Author.Needs.{needs}
 use Rattle.job.proofs.check.places.Statement.{statement}
 use Rattle.job.proofs.check.places.Tie as tie
@@ -39,7 +40,17 @@ add-t12 c = search needs
 
 returns : tie.Need-returns
 unfolding placesOf
-returns c = cc
+returns c =
+    rw (
+      c .before .before .before .before .before .u8-at .ensures,
+      c .before .before .before .before .font-count .ensures .0,
+      c .before .before .before .dx-at .ensures .0,
+      c .before .before .dy-at .ensures .0,
+      c .before .rotate-at .ensures .0,
+      c .chunks-at .ensures .0,
+      c .before .before .before .before .before .before .from .ensures,
+    )
+    refl
 
 pub places-spec : {M : Type 1} → statement M
 places-spec =

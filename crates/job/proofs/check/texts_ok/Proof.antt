@@ -1,6 +1,7 @@
 -- `job::check::texts_ok` meets its contract. Assumes nothing.
 use Rattle.job.proofs.Tests.{chunks-test}
 use Rattle.labels.specs.Check.{textOk}
+use mathlib.Core.Path.{refl}
 use borrow.Author.Needs.{needs}
 use Rattle.job.proofs.check.texts_ok.Statement.{statement}
 use Rattle.job.proofs.check.texts_ok.Tie as tie
@@ -15,7 +16,14 @@ chunks-pass-requires : tie.Need-chunks-pass-requires
 chunks-pass-requires c κs = search needs
 
 returns : tie.Need-returns
-returns c = cc (chunks-test textOk (c .before .before .before .before .args .job .now))
+returns c =
+    rw (
+      chunks-test textOk (c .before .before .before .before .args .job .now),
+      c .chunks-pass .ensures,
+      c .before .chunk-count .ensures .0,
+      c .before .before .chunk-bytes .ensures,
+    )
+    refl
 
 pub texts-ok-spec : {M : Type 1} → statement M
 texts-ok-spec =

@@ -1,5 +1,6 @@
 -- `job::order::spans_ok` meets its contract. Assumes nothing.
 use Rattle.job.proofs.Orders.{chunk-order}
+use mathlib.Core.Path.{refl}
 use borrow.Author.Needs.{needs}
 use Rattle.job.proofs.order.spans_ok.Statement.{statement}
 use Rattle.job.proofs.order.spans_ok.Tie as tie
@@ -17,7 +18,15 @@ spans-ordered-requires : tie.Need-spans-ordered-requires
 spans-ordered-requires c κs = search needs
 
 returns : tie.Need-returns
-returns c = cc (chunk-order (c .before .before .before .before .before .args .chunk .now))
+returns c =
+    rw (
+      chunk-order (c .before .before .before .before .before .args .chunk .now),
+      c .spans-ordered .ensures,
+      c .before .span-count .ensures .0,
+      c .before .before .span-bytes .ensures,
+      c .before .before .before .text-of .ensures,
+    )
+    refl
 
 pub spans-ok-spec : {M : Type 1} → statement M
 spans-ok-spec =

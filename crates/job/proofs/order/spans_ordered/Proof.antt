@@ -5,7 +5,7 @@ use lib.ListN.{drop}
 use Rattle.labels.specs.Bytes.{rows}
 use Rattle.labels.specs.Decode.{spanSize, spanOf}
 use Rattle.labels.specs.Check.{ordered}
-use Rattle.job.proofs.Orders.{ordered-stop, ordered-on, ordered-done}
+use Rattle.job.proofs.Orders.{inOrder, ordered-stop, ordered-on, ordered-done}
 use borrow.Author.Needs.{needs}
 use native.Mathlib.Omega.{arith}
 use Rattle.job.proofs.order.spans_ordered.Statement.{statement}
@@ -44,7 +44,7 @@ returns c =
     let end = c .before .u16-at2 in
     let span = c .before .before .before .from in
     sym (ordered-stop (a .length) (l .previous) (start .result) (end .result) (l .left) (l .p) (a .spans .now) (span .result .now) (span .ensures) (start .ensures) (end .ensures) (omega arith)
-    (not-true _ (c .if1 .taken)))
+    (not-true (inOrder (a .length) (l .previous) (start .result) (end .result)) (c .if1 .taken)))
     ∙ l .inv
 
 span-size-requires : tie.Need-span-size-requires Inv-loop μ-loop
@@ -67,7 +67,7 @@ loop-again c =
     let end = c .before .before .before .u16-at2 in
     let span = c .before .before .before .before .before .from in
     ordered-on (a .length) (l .previous) (start .result) (end .result) (l .left) (l .p) (a .spans .now) (span .result .now) (span .ensures) (start .ensures) (end .ensures) (omega arith)
-    (not-false _ (c .before .before .if1 .left)) (c .before .span-size .result) (c .after .result) (c .before .span-size .ensures .0) (c .after .ensures)
+    (not-false (inOrder (a .length) (l .previous) (start .result) (end .result)) (c .before .before .if1 .left)) (c .before .span-size .result) (c .after .result) (c .before .span-size .ensures .0) (c .after .ensures .0)
     ∙ l .inv
 
 returns-2 : tie.Need-returns-2 Inv-loop μ-loop

@@ -1,5 +1,6 @@
 -- `job::shape::chunk_fits` meets its contract. Assumes nothing.
 use Rattle.job.proofs.Tests.{fit-test}
+use mathlib.Core.Path.{refl}
 use borrow.Author.Needs.{needs}
 use Rattle.job.proofs.shape.chunk_fits.Statement.{statement}
 use Rattle.job.proofs.shape.chunk_fits.Tie as tie
@@ -26,7 +27,16 @@ add-result : tie.Need-add-result
 add-result c = search needs
 
 returns : tie.Need-returns
-returns c = cc (fit-test (c .before .before .before .text-of .result .now) (c .before .before .before .before .before .before .before .args .chunk .now))
+returns c =
+    rw (
+      fit-test (c .before .before .before .text-of .result .now) (c .before .before .before .before .before .before .before .args .chunk .now),
+      ← c .before .before .before .before .before .span-count .ensures .0,
+      ← c .before .before .before .before .span-bytes .ensures,
+      ← c .before .before .spans-pass .ensures,
+      ← c .before .text-size .ensures .0,
+      ← c .spans-at .ensures .0,
+    )
+    refl
 
 pub chunk-fits-spec : {M : Type 1} → statement M
 chunk-fits-spec =

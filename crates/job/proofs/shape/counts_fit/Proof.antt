@@ -1,5 +1,6 @@
 -- `job::shape::counts_fit` meets its contract. Assumes nothing.
 use Rattle.job.proofs.Tests.{counts-test}
+use mathlib.Core.Path.{refl}
 use borrow.Author.Needs.{needs}
 use Rattle.job.proofs.shape.counts_fit.Statement.{statement}
 use Rattle.job.proofs.shape.counts_fit.Tie as tie
@@ -38,7 +39,22 @@ chunk-count-requires : tie.Need-chunk-count-requires
 chunk-count-requires c κs = search needs
 
 returns : tie.Need-returns
-returns c = cc (counts-test (c .before .before .before .before .before .before .before .before .before .before .before .before .args .job .now))
+returns c =
+    rw (
+      counts-test (c .before .before .before .before .before .before .before .before .before .before .before .before .args .job .now),
+      ← c .before .before .before .before .before .before .before .before .before .before .font-count .ensures .0,
+      ← c .before .before .before .before .before .before .before .before .before .dx-at .ensures .0,
+      ← c .before .before .before .before .before .before .before .before .from .ensures,
+      ← c .before .before .before .before .before .before .before .list-fits .ensures,
+      ← c .before .before .before .before .before .before .dy-at .ensures .0,
+      ← c .before .before .before .before .before .from2 .ensures,
+      ← c .before .before .before .before .list-fits2 .ensures,
+      ← c .before .before .before .rotate-at .ensures .0,
+      ← c .before .before .from3 .ensures,
+      ← c .before .list-fits3 .ensures,
+      ← c .chunk-count .ensures .0,
+    )
+    refl
 
 pub counts-fit-spec : {M : Type 1} → statement M
 counts-fit-spec =

@@ -1,6 +1,7 @@
 -- `job::shape::is_shaped` meets its contract. Assumes nothing.
 use borrow.Author.Tests.{not-true, not-false}
 use Rattle.job.proofs.Tests.{shape-test}
+use mathlib.Core.Path.{refl}
 use borrow.Author.Needs.{needs}
 use Rattle.job.proofs.shape.is_shaped.Statement.{statement}
 use Rattle.job.proofs.shape.is_shaped.Tie as tie
@@ -15,6 +16,7 @@ returns c =
       ← c .before .counts-fit .ensures,
       not-true (c .before .counts-fit .result) (c .if1 .taken),
     )
+    refl
 
 chunk-count-requires : tie.Need-chunk-count-requires
 chunk-count-requires c κs = search needs
@@ -36,6 +38,7 @@ returns-2 c =
       ← c .before .chunks-pass .ensures,
       not-true (c .before .chunks-pass .result) (c .if2 .taken),
     )
+    refl
 
 chunks-at-requires : tie.Need-chunks-at-requires
 chunks-at-requires c κs = search needs
@@ -62,6 +65,7 @@ returns-3 c =
       ← c .before .chunks-at .ensures .0,
       ← c .chunks-size .ensures .0,
     )
+    refl
 
 pub is-shaped-spec : {M : Type 1} → statement M
 is-shaped-spec =

@@ -2,6 +2,7 @@
 use Rattle.labels.specs.Decode.{listFits}
 use Rattle.labels.specs.Lists.{every}
 use mathlib.Core.Bool.{and-true}
+use mathlib.Core.Path.{refl}
 use borrow.Author.Needs.{needs}
 use Rattle.job.proofs.shape.list_fits.Statement.{statement}
 use Rattle.job.proofs.shape.list_fits.Tie as tie
@@ -17,7 +18,12 @@ list-size-requires c κs = search needs
 
 returns : tie.Need-returns
 unfolding listFits every
-returns c = rw (c .before .u16-at .ensures, c .list-size .ensures .0) (simp and-true)
+returns c =
+    rw (
+      ← c .before .u16-at .ensures,
+      ← c .list-size .ensures .0,
+    )
+    (simp and-true refl)
 
 pub list-fits-spec : {M : Type 1} → statement M
 list-fits-spec = tie.close (tie.spec u16-at-requires cast-n list-size-requires returns)

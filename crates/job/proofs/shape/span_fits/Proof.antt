@@ -2,6 +2,7 @@
 use Rattle.labels.specs.Decode.{spanFits}
 use Rattle.labels.specs.Lists.{every}
 use mathlib.Core.Bool.{and-assoc, and-true}
+use mathlib.Core.Path.{refl}
 use borrow.Author.Needs.{needs}
 use Rattle.job.proofs.shape.span_fits.Statement.{statement}
 use Rattle.job.proofs.shape.span_fits.Tie as tie
@@ -18,8 +19,12 @@ span-size-requires c κs = search needs
 returns : tie.Need-returns
 unfolding spanFits every
 returns c =
-    rw (c .before .before .shift-count .ensures .0, c .before .glyph-count .ensures .0, c .span-size .ensures .0)
-    (simp (and-assoc, and-true))
+    rw (
+      ← c .before .before .shift-count .ensures .0,
+      ← c .before .glyph-count .ensures .0,
+      ← c .span-size .ensures .0,
+    )
+    (simp (and-assoc, and-true) refl)
 
 pub span-fits-spec : {M : Type 1} → statement M
 span-fits-spec =

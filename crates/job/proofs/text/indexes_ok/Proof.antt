@@ -1,5 +1,6 @@
 -- `job::text::indexes_ok` meets its contract. Assumes nothing.
 use Rattle.labels.specs.Decode.{partsOf}
+use mathlib.Core.Path.{refl}
 use borrow.Author.Needs.{needs}
 use Rattle.job.proofs.text.indexes_ok.Statement.{statement}
 use Rattle.job.proofs.text.indexes_ok.Tie as tie
@@ -21,7 +22,14 @@ rows-start-requires c κs = search needs
 
 returns : tie.Need-returns
 unfolding partsOf
-returns c = cc
+returns c =
+    rw (
+      c .rows-start .ensures,
+      c .before .glyph-count .ensures .0,
+      c .before .before .from .ensures,
+      c .before .before .before .glyphs-at .ensures .0,
+    )
+    refl
 
 pub indexes-ok-spec : {M : Type 1} → statement M
 indexes-ok-spec =

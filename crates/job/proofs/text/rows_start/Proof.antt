@@ -59,7 +59,7 @@ loop-again c =
     let t = c .before .before .starts-at in
     let t-is = t .ensures ∙ ap (indexOk (a .text .now)) (c .before .before .before .before .glyph-at .ensures) in
     each-on (λ b. glyphBytes) (a .glyphs .now) (drop (l .p) (a .glyphs .now)) (l .p) (l .left) refl (omega arith) ok (t .result) t-is (c .before .if1 .left)
-    25 (c .after .result) refl (c .after .ensures)
+    glyphBytes (c .after .result) refl (c .after .ensures .0)
     ∙ l .inv
 
 returns-2 : tie.Need-returns-2 Inv-loop μ-loop

@@ -1,5 +1,6 @@
 -- `job::text::text_ok` meets its contract. Assumes nothing.
 use Rattle.job.proofs.Tests.{text-test}
+use mathlib.Core.Path.{refl}
 use borrow.Author.Needs.{needs}
 use Rattle.job.proofs.text.text_ok.Statement.{statement}
 use Rattle.job.proofs.text.text_ok.Tie as tie
@@ -20,7 +21,16 @@ spans-pass-requires : tie.Need-spans-pass-requires
 spans-pass-requires c κs = search needs
 
 returns : tie.Need-returns
-returns c = cc (text-test (c .before .before .before .before .before .before .args .chunk .now))
+returns c =
+    rw (
+      text-test (c .before .before .before .before .before .before .args .chunk .now),
+      ← c .before .before .before .before .text-of .ensures,
+      ← c .before .before .before .is-utf8 .ensures,
+      ← c .before .before .span-bytes .ensures,
+      ← c .before .span-count .ensures .0,
+      ← c .spans-pass .ensures,
+    )
+    refl
 
 pub text-ok-spec : {M : Type 1} → statement M
 text-ok-spec =

@@ -1,5 +1,6 @@
 -- `job::values::chunk_ok` meets its contract. Assumes nothing.
 use Rattle.job.proofs.Tests.{chunk-test}
+use mathlib.Core.Path.{refl}
 use borrow.Author.Needs.{needs}
 use Rattle.job.proofs.values.chunk_ok.Statement.{statement}
 use Rattle.job.proofs.values.chunk_ok.Tie as tie
@@ -25,7 +26,15 @@ spans-pass-requires c κs = search needs
 returns : tie.Need-returns
 returns c =
     let a = c .before .before .before .before .before .before .before .before .before .before .before .before .args in
-    cc (chunk-test (a .fonts) (c .before .before .before .before .before .before .before .before .before .text-of .result .now) (a .chunk .now))
+    rw (
+      chunk-test (a .fonts) (c .before .before .before .before .before .before .before .before .before .text-of .result .now) (a .chunk .now),
+      ← c .before .before .before .before .before .before .before .before .before .before .head-at .ensures,
+      ← c .before .before .before .before .before .before .flagged-ok .ensures,
+      ← c .before .before .before .before .flagged-ok2 .ensures,
+      ← c .before .span-bytes .ensures,
+      ← c .spans-pass .ensures,
+    )
+    refl
 
 pub chunk-ok-spec : {M : Type 1} → statement M
 chunk-ok-spec =

@@ -1,5 +1,6 @@
 -- `job::values::list_ok` meets its contract. Assumes nothing.
 use Rattle.job.proofs.Tests.{list-test}
+use mathlib.Core.Path.{refl}
 use borrow.Author.Needs.{needs}
 use Rattle.job.proofs.values.list_ok.Statement.{statement}
 use Rattle.job.proofs.values.list_ok.Tie as tie
@@ -17,7 +18,14 @@ rows-ok-requires : tie.Need-rows-ok-requires
 rows-ok-requires c κs = search needs
 
 returns : tie.Need-returns
-returns c = cc (list-test (c .before .before .before .before .args .list .now))
+returns c =
+    rw (
+      list-test (c .before .before .before .before .args .list .now),
+      c .rows-ok .ensures,
+      c .before .from .ensures,
+      c .before .before .u16-at .ensures,
+    )
+    refl
 
 pub list-ok-spec : {M : Type 1} → statement M
 list-ok-spec = tie.close (tie.spec u16-at-requires cast-n from-requires rows-ok-requires returns)

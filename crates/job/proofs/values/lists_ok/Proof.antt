@@ -1,5 +1,6 @@
 -- `job::values::lists_ok` meets its contract. Assumes nothing.
 use Rattle.labels.specs.Decode.{jobOf}
+use mathlib.Core.Path.{refl}
 use borrow.Author.Needs.{needs}
 use Rattle.job.proofs.values.lists_ok.Statement.{statement}
 use Rattle.job.proofs.values.lists_ok.Tie as tie
@@ -33,7 +34,19 @@ list-ok-requires-3 c κs = search needs
 
 returns : tie.Need-returns
 unfolding jobOf
-returns c = cc
+returns c =
+    rw (
+      ← c .before .before .before .before .before .before .before .before .dx-at .ensures .0,
+      ← c .before .before .before .before .before .before .before .from .ensures,
+      ← c .before .before .before .before .before .before .list-ok .ensures,
+      ← c .before .before .before .before .before .dy-at .ensures .0,
+      ← c .before .before .before .before .from2 .ensures,
+      ← c .before .before .before .list-ok2 .ensures,
+      ← c .before .before .rotate-at .ensures .0,
+      ← c .before .from3 .ensures,
+      ← c .list-ok3 .ensures,
+    )
+    refl
 
 pub lists-ok-spec : {M : Type 1} → statement M
 lists-ok-spec =

@@ -1,5 +1,6 @@
 -- `job::values::parts_ok` meets its contract. Assumes nothing.
 use Rattle.job.proofs.Tests.{parts-test}
+use mathlib.Core.Path.{refl}
 use borrow.Author.Needs.{needs}
 use Rattle.job.proofs.values.parts_ok.Statement.{statement}
 use Rattle.job.proofs.values.parts_ok.Tie as tie
@@ -35,7 +36,21 @@ rows-ok-requires-2 : tie.Need-rows-ok-requires-2
 rows-ok-requires-2 c κs = search needs
 
 returns : tie.Need-returns
-returns c = cc (parts-test (c .before .before .before .before .before .before .before .before .before .before .before .args .fonts) (c .before .before .before .before .before .before .before .before .before .before .before .args .span .now))
+returns c =
+    let a = c .before .before .before .before .before .before .before .before .before .before .before .args in
+    rw (
+      parts-test (a .fonts) (a .span .now),
+      ← c .before .before .before .before .before .before .before .before .before .span-at .ensures,
+      ← c .before .before .before .before .before .before .before .before .glyph-count .ensures .0,
+      ← c .before .before .before .before .before .before .before .from .ensures,
+      ← c .before .before .before .before .before .before .glyphs-at .ensures .0,
+      ← c .before .before .before .before .before .from2 .ensures,
+      ← c .before .before .before .before .span-ok .ensures,
+      ← c .before .before .shift-count .ensures .0,
+      ← c .before .rows-ok .ensures,
+      ← c .rows-ok2 .ensures,
+    )
+    refl
 
 pub parts-ok-spec : {M : Type 1} → statement M
 parts-ok-spec =

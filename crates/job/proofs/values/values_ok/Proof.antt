@@ -1,5 +1,6 @@
 -- `job::values::values_ok` meets its contract. Assumes nothing.
 use Rattle.job.proofs.Tests.{values-test}
+use mathlib.Core.Path.{refl}
 use borrow.Author.Needs.{needs}
 use Rattle.job.proofs.values.values_ok.Statement.{statement}
 use Rattle.job.proofs.values.values_ok.Tie as tie
@@ -29,7 +30,19 @@ chunks-pass-requires : tie.Need-chunks-pass-requires
 chunks-pass-requires c κs = search needs
 
 returns : tie.Need-returns
-returns c = cc (values-test (c .before .before .before .before .before .before .before .before .before .args .job .now))
+returns c =
+    rw (
+      values-test (c .before .before .before .before .before .before .before .before .before .args .job .now),
+      ← c .before .before .before .before .before .before .before .font-count .ensures .0,
+      ← c .before .before .before .before .before .before .u8-at .ensures,
+      ← c .before .before .before .before .before .from .ensures,
+      ← c .before .before .before .before .rows-ok .ensures,
+      ← c .before .before .before .lists-ok .ensures,
+      ← c .before .before .chunk-bytes .ensures,
+      ← c .before .chunk-count .ensures .0,
+      ← c .chunks-pass .ensures,
+    )
+    refl
 
 pub values-ok-spec : {M : Type 1} → statement M
 values-ok-spec =

@@ -1,6 +1,8 @@
 -- `parts::rows::font_at` meets its contract: field by field. Assumes nothing.
 use Rattle.labels.specs.Decode.{fontOf}
 use mir.Facts.{toZ-ofZ}
+use mathlib.Core.Path.{_≡_, _∙_}
+use mir.Syntax.{w16}
 use borrow.Author.Needs.{needs}
 use Rattle.parts.proofs.rows.font_at.Statement.{statement}
 use Rattle.parts.proofs.rows.font_at.Tie as tie
@@ -38,24 +40,18 @@ i16-at-requires-6 c κs = search needs
 returns : tie.Need-returns
 unfolding fontOf
 returns c =
-    rw (
-      toZ-ofZ (record { sfits = c .before .before .before .before .before .before .before .i16-at .ok }),
-      toZ-ofZ (record { sfits = c .before .before .before .before .before .before .i16-at2 .ok }),
-      toZ-ofZ (record { sfits = c .before .before .before .before .i16-at3 .ok }),
-      toZ-ofZ (record { sfits = c .before .before .i16-at4 .ok }),
-      toZ-ofZ (record { sfits = c .before .i16-at5 .ok }),
-      toZ-ofZ (record { sfits = c .i16-at6 .ok }),
-      c .before .before .before .before .before .before .before .before .u16-at .ensures,
-      c .before .before .before .before .before .before .before .i16-at .ensures,
-      c .before .before .before .before .before .before .i16-at2 .ensures,
-      c .before .before .before .before .before .u16-at2 .ensures,
-      c .before .before .before .before .i16-at3 .ensures,
-      c .before .before .before .u16-at3 .ensures,
-      c .before .before .i16-at4 .ensures,
-      c .before .i16-at5 .ensures,
-      c .i16-at6 .ensures,
-      c .before .before .before .before .before .before .before .before .before .from .ensures,
-    )
+    let row = c .before .before .before .before .before .before .before .before .before .from in
+    let read = fontOf (row .result .now) in
+    let units : _ ≡ read .units = c .before .before .before .before .before .before .before .before .u16-at .ensures in
+    let ascent : _ ≡ read .ascent = toZ-ofZ {w = w16} (record { sfits = c .before .before .before .before .before .before .before .i16-at .ok }) ∙ c .before .before .before .before .before .before .before .i16-at .ensures in
+    let descent : _ ≡ read .descent = toZ-ofZ {w = w16} (record { sfits = c .before .before .before .before .before .before .i16-at2 .ok }) ∙ c .before .before .before .before .before .before .i16-at2 .ensures in
+    let xheight : _ ≡ read .xheight = c .before .before .before .before .before .u16-at2 .ensures in
+    let underline : _ ≡ read .underline = toZ-ofZ {w = w16} (record { sfits = c .before .before .before .before .i16-at3 .ok }) ∙ c .before .before .before .before .i16-at3 .ensures in
+    let thickness : _ ≡ read .thickness = c .before .before .before .u16-at3 .ensures in
+    let through : _ ≡ read .through = toZ-ofZ {w = w16} (record { sfits = c .before .before .i16-at4 .ok }) ∙ c .before .before .i16-at4 .ensures in
+    let subscript : _ ≡ read .subscript = toZ-ofZ {w = w16} (record { sfits = c .before .i16-at5 .ok }) ∙ c .before .i16-at5 .ensures in
+    let superscript : _ ≡ read .superscript = toZ-ofZ {w = w16} (record { sfits = c .i16-at6 .ok }) ∙ c .i16-at6 .ensures in
+    rw (← row .ensures) (λ i. record { units = units i; ascent = ascent i; descent = descent i; xheight = xheight i; underline = underline i; thickness = thickness i; through = through i; subscript = subscript i; superscript = superscript i })
 
 pub font-at-spec : {M : Type 1} → statement M
 font-at-spec =

@@ -1,6 +1,8 @@
 -- `parts::rows::glyph_at` meets its contract: field by field. Assumes nothing.
 use Rattle.labels.specs.Decode.{glyphOf}
 use mir.Facts.{toZ-ofZ}
+use mathlib.Core.Path.{_≡_, _∙_}
+use mir.Syntax.{w32}
 use borrow.Author.Needs.{needs}
 use Rattle.parts.proofs.rows.glyph_at.Statement.{statement}
 use Rattle.parts.proofs.rows.glyph_at.Tie as tie
@@ -38,21 +40,18 @@ u8-at-requires-3 c κs = search needs
 returns : tie.Need-returns
 unfolding glyphOf
 returns c =
-    rw (
-      toZ-ofZ (record { sfits = c .before .before .before .before .before .i32-at .ok }),
-      toZ-ofZ (record { sfits = c .before .before .before .before .i32-at2 .ok }),
-      toZ-ofZ (record { sfits = c .before .before .before .i32-at3 .ok }),
-      c .before .before .before .before .before .before .before .before .u32-at .ensures,
-      c .before .before .before .before .before .before .before .u16-at .ensures,
-      c .before .before .before .before .before .before .u8-at .ensures,
-      c .before .before .before .before .before .i32-at .ensures,
-      c .before .before .before .before .i32-at2 .ensures,
-      c .before .before .before .i32-at3 .ensures,
-      c .before .before .u8-at2 .ensures,
-      c .before .u32-at2 .ensures,
-      c .u8-at3 .ensures,
-      c .before .before .before .before .before .before .before .before .before .from .ensures,
-    )
+    let row = c .before .before .before .before .before .before .before .before .before .from in
+    let read = glyphOf (row .result .now) in
+    let id : _ ≡ read .id = c .before .before .before .before .before .before .before .before .u32-at .ensures in
+    let index : _ ≡ read .index = c .before .before .before .before .before .before .before .u16-at .ensures in
+    let length : _ ≡ read .length = c .before .before .before .before .before .before .u8-at .ensures in
+    let dx : _ ≡ read .dx = toZ-ofZ {w = w32} (record { sfits = c .before .before .before .before .before .i32-at .ok }) ∙ c .before .before .before .before .before .i32-at .ensures in
+    let dy : _ ≡ read .dy = toZ-ofZ {w = w32} (record { sfits = c .before .before .before .before .i32-at2 .ok }) ∙ c .before .before .before .before .i32-at2 .ensures in
+    let width : _ ≡ read .width = toZ-ofZ {w = w32} (record { sfits = c .before .before .before .i32-at3 .ok }) ∙ c .before .before .before .i32-at3 .ensures in
+    let font : _ ≡ read .font = c .before .before .u8-at2 .ensures in
+    let tag : _ ≡ read .tag = c .before .u32-at2 .ensures in
+    let orientation : _ ≡ read .orientation = c .u8-at3 .ensures in
+    rw (← row .ensures) (λ i. record { id = id i; index = index i; length = length i; dx = dx i; dy = dy i; width = width i; font = font i; tag = tag i; orientation = orientation i })
 
 pub glyph-at-spec : {M : Type 1} → statement M
 glyph-at-spec =

@@ -1,5 +1,6 @@
 -- `parts::rows::head_at` meets its contract: field by field. Assumes nothing.
 use Rattle.parts.specs.Head.{headOf}
+use mathlib.Core.Path.{_≡_}
 use borrow.Author.Needs.{needs}
 use Rattle.parts.proofs.rows.head_at.Statement.{statement}
 use Rattle.parts.proofs.rows.head_at.Tie as tie
@@ -31,16 +32,16 @@ span-count-requires c κs = search needs
 returns : tie.Need-returns
 unfolding headOf
 returns c =
-    rw (
-      c .before .before .before .before .before .before .u8-at .ensures,
-      c .before .before .before .before .before .f32-at .ensures,
-      c .before .before .before .before .f32-at2 .ensures,
-      c .before .before .before .u8-at2 .ensures,
-      c .before .before .u8-at3 .ensures,
-      c .before .text-size .ensures .0,
-      c .span-count .ensures .0,
-      c .before .before .before .before .before .before .before .from .ensures,
-    )
+    let row = c .before .before .before .before .before .before .before .from in
+    let read = headOf (row .result .now) in
+    let flags : _ ≡ read .flags = c .before .before .before .before .before .before .u8-at .ensures in
+    let x : _ ≡ read .x = c .before .before .before .before .before .f32-at .ensures in
+    let y : _ ≡ read .y = c .before .before .before .before .f32-at2 .ensures in
+    let anchor : _ ≡ read .anchor = c .before .before .before .u8-at2 .ensures in
+    let flow : _ ≡ read .flow = c .before .before .u8-at3 .ensures in
+    let text : _ ≡ read .text = c .before .text-size .ensures .0 in
+    let spans : _ ≡ read .spans = c .span-count .ensures .0 in
+    rw (← row .ensures) (λ i. record { flags = flags i; x = x i; y = y i; anchor = anchor i; flow = flow i; text = text i; spans = spans i })
 
 pub head-at-spec : {M : Type 1} → statement M
 head-at-spec =

@@ -1,5 +1,6 @@
 -- `parts::rows::shift_number_at` meets its contract. Assumes nothing.
 use Rattle.labels.specs.Decode.{shiftOf}
+use mathlib.Core.Path.{refl}
 use borrow.Author.Needs.{needs}
 use Rattle.parts.proofs.rows.shift_number_at.Statement.{statement}
 use Rattle.parts.proofs.rows.shift_number_at.Tie as tie
@@ -12,7 +13,7 @@ f32-at-requires c κs = search needs
 
 returns : tie.Need-returns
 unfolding shiftOf
-returns c = cc
+returns c = rw (c .f32-at .ensures, c .before .from .ensures) refl
 
 pub shift-number-at-spec : {M : Type 1} → statement M
 shift-number-at-spec = tie.close (tie.spec from-requires f32-at-requires returns)

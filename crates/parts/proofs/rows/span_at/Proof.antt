@@ -1,5 +1,6 @@
 -- `parts::rows::span_at` meets its contract: field by field. Assumes nothing.
 use Rattle.labels.specs.Decode.{spanOf}
+use mathlib.Core.Path.{_≡_}
 use borrow.Author.Needs.{needs}
 use Rattle.parts.proofs.rows.span_at.Statement.{statement}
 use Rattle.parts.proofs.rows.span_at.Tie as tie
@@ -46,21 +47,21 @@ u8-at-requires-6 c κs = search needs
 returns : tie.Need-returns
 unfolding spanOf
 returns c =
-    rw (
-      c .before .before .before .before .before .before .before .before .before .before .before .u16-at .ensures,
-      c .before .before .before .before .before .before .before .before .before .before .u16-at2 .ensures,
-      c .before .before .before .before .before .before .before .before .before .u8-at .ensures,
-      c .before .before .before .before .before .before .before .before .f32-at .ensures,
-      c .before .before .before .before .before .before .before .f32-at2 .ensures,
-      c .before .before .before .before .before .before .f32-at3 .ensures,
-      c .before .before .before .before .before .u8-at2 .ensures,
-      c .before .before .before .before .f32-at4 .ensures,
-      c .before .before .before .u8-at3 .ensures,
-      c .before .before .u8-at4 .ensures,
-      c .before .u8-at5 .ensures,
-      c .u8-at6 .ensures,
-      c .before .before .before .before .before .before .before .before .before .before .before .before .from .ensures,
-    )
+    let row = c .before .before .before .before .before .before .before .before .before .before .before .before .from in
+    let read = spanOf (row .result .now) in
+    let start : _ ≡ read .start = c .before .before .before .before .before .before .before .before .before .before .before .u16-at .ensures in
+    let end : _ ≡ read .end = c .before .before .before .before .before .before .before .before .before .before .u16-at2 .ensures in
+    let font : _ ≡ read .font = c .before .before .before .before .before .before .before .before .before .u8-at .ensures in
+    let size : _ ≡ read .size = c .before .before .before .before .before .before .before .before .f32-at .ensures in
+    let letter : _ ≡ read .letter = c .before .before .before .before .before .before .before .f32-at2 .ensures in
+    let word : _ ≡ read .word = c .before .before .before .before .before .before .f32-at3 .ensures in
+    let fixed : _ ≡ read .fixed = c .before .before .before .before .before .u8-at2 .ensures in
+    let length : _ ≡ read .length = c .before .before .before .before .f32-at4 .ensures in
+    let adjust : _ ≡ read .adjust = c .before .before .before .u8-at3 .ensures in
+    let dominant : _ ≡ read .dominant = c .before .before .u8-at4 .ensures in
+    let alignment : _ ≡ read .alignment = c .before .u8-at5 .ensures in
+    let decorations : _ ≡ read .decorations = c .u8-at6 .ensures in
+    rw (← row .ensures) (λ i. record { start = start i; end = end i; font = font i; size = size i; letter = letter i; word = word i; fixed = fixed i; length = length i; adjust = adjust i; dominant = dominant i; alignment = alignment i; decorations = decorations i })
 
 pub span-at-spec : {M : Type 1} → statement M
 span-at-spec =

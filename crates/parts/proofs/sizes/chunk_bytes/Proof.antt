@@ -1,5 +1,6 @@
 -- `parts::sizes::chunk_bytes` meets its contract. Assumes nothing.
 use Rattle.labels.specs.Decode.{chunkBytes}
+use mathlib.Core.Path.{refl}
 use borrow.Author.Needs.{needs}
 use Rattle.parts.proofs.sizes.chunk_bytes.Statement.{statement}
 use Rattle.parts.proofs.sizes.chunk_bytes.Tie as tie
@@ -15,7 +16,7 @@ from-requires c κs = search needs
 
 returns : tie.Need-returns
 unfolding chunkBytes
-returns c = cc
+returns c = rw (c .from .ensures, c .before .chunks-at .ensures .0) refl
 
 pub chunk-bytes-spec : {M : Type 1} → statement M
 chunk-bytes-spec = tie.close (tie.spec chunks-at-requires add-from from-requires returns)

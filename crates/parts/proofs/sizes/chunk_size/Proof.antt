@@ -1,5 +1,6 @@
 -- `parts::sizes::chunk_size` meets its contract. Assumes nothing.
 use Rattle.labels.specs.Decode.{chunkSize}
+use mathlib.Core.Path.{refl}
 use borrow.Author.Needs.{needs}
 use Rattle.parts.proofs.sizes.chunk_size.Statement.{statement}
 use Rattle.parts.proofs.sizes.chunk_size.Tie as tie
@@ -24,7 +25,7 @@ add-result-2 c = search needs
 
 returns : tie.Need-returns
 unfolding chunkSize
-returns c = (cc, search needs)
+returns c = (rw (c .spans-size .ensures .0, c .before .span-count .ensures .0, c .before .before .span-bytes .ensures, c .before .before .before .spans-at .ensures .0) refl, search needs)
 
 pub chunk-size-spec : {M : Type 1} → statement M
 chunk-size-spec =

@@ -1,5 +1,6 @@
 -- `parts::sizes::chunks_at` meets its contract. Assumes nothing.
 use Rattle.labels.specs.Decode.{chunksAt}
+use mathlib.Core.Path.{refl}
 use borrow.Author.Needs.{needs}
 use Rattle.parts.proofs.sizes.chunks_at.Statement.{statement}
 use Rattle.parts.proofs.sizes.chunks_at.Tie as tie
@@ -18,7 +19,7 @@ add-result c = search needs
 
 returns : tie.Need-returns
 unfolding chunksAt
-returns c = (cc, search needs)
+returns c = (rw (c .list-size .ensures .0, c .before .from .ensures, c .before .before .rotate-at .ensures .0) refl, search needs)
 
 pub chunks-at-spec : {M : Type 1} → statement M
 chunks-at-spec =

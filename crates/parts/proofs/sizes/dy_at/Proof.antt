@@ -1,5 +1,6 @@
 -- `parts::sizes::dy_at` meets its contract. Assumes nothing.
 use Rattle.labels.specs.Decode.{dyAt}
+use mathlib.Core.Path.{refl}
 use borrow.Author.Needs.{needs}
 use Rattle.parts.proofs.sizes.dy_at.Statement.{statement}
 use Rattle.parts.proofs.sizes.dy_at.Tie as tie
@@ -18,7 +19,7 @@ add-result c = search needs
 
 returns : tie.Need-returns
 unfolding dyAt
-returns c = (cc, search needs)
+returns c = (rw (c .list-size .ensures .0, c .before .from .ensures, c .before .before .dx-at .ensures .0) refl, search needs)
 
 pub dy-at-spec : {M : Type 1} → statement M
 dy-at-spec =

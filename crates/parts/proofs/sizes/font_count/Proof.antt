@@ -1,5 +1,6 @@
 -- `parts::sizes::font_count` meets its contract. Assumes nothing.
 use Rattle.labels.specs.Decode.{fontCount}
+use mathlib.Core.Path.{refl}
 use borrow.Author.Needs.{needs}
 use Rattle.parts.proofs.sizes.font_count.Statement.{statement}
 use Rattle.parts.proofs.sizes.font_count.Tie as tie
@@ -12,7 +13,7 @@ cast-result c = search needs
 
 returns : tie.Need-returns
 unfolding fontCount
-returns c = (cc, search needs)
+returns c = (rw (c .u8-at .ensures) refl, search needs)
 
 pub font-count-spec : {M : Type 1} → statement M
 font-count-spec = tie.close (tie.spec u8-at-requires cast-result returns)

@@ -1,5 +1,6 @@
 -- `parts::sizes::glyph_count` meets its contract. Assumes nothing.
 use Rattle.labels.specs.Decode.{glyphCount}
+use mathlib.Core.Path.{refl}
 use borrow.Author.Needs.{needs}
 use Rattle.parts.proofs.sizes.glyph_count.Statement.{statement}
 use Rattle.parts.proofs.sizes.glyph_count.Tie as tie
@@ -15,7 +16,7 @@ cast-result c = search needs
 
 returns : tie.Need-returns
 unfolding glyphCount
-returns c = (cc, search needs)
+returns c = (rw (c .u16-at .ensures, c .before .glyphs-at .ensures .0) refl, search needs)
 
 pub glyph-count-spec : {M : Type 1} → statement M
 glyph-count-spec = tie.close (tie.spec glyphs-at-requires u16-at-requires cast-result returns)

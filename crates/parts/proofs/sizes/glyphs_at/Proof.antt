@@ -1,5 +1,6 @@
 -- `parts::sizes::glyphs_at` meets its contract. Assumes nothing.
 use Rattle.labels.specs.Decode.{glyphsAt}
+use mathlib.Core.Path.{refl}
 use borrow.Author.Needs.{needs}
 use Rattle.parts.proofs.sizes.glyphs_at.Statement.{statement}
 use Rattle.parts.proofs.sizes.glyphs_at.Tie as tie
@@ -15,7 +16,7 @@ add-result c = search needs
 
 returns : tie.Need-returns
 unfolding glyphsAt
-returns c = (cc, search needs)
+returns c = (rw (c .shift-count .ensures .0) refl, search needs)
 
 pub glyphs-at-spec : {M : Type 1} → statement M
 glyphs-at-spec = tie.close (tie.spec shift-count-requires mul-result add-result returns)

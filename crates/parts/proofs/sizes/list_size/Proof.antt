@@ -1,5 +1,6 @@
 -- `parts::sizes::list_size` meets its contract. Assumes nothing.
 use Rattle.labels.specs.Decode.{listSize}
+use mathlib.Core.Path.{refl}
 use borrow.Author.Needs.{needs}
 use Rattle.parts.proofs.sizes.list_size.Statement.{statement}
 use Rattle.parts.proofs.sizes.list_size.Tie as tie
@@ -18,7 +19,7 @@ add-result c = search needs
 
 returns : tie.Need-returns
 unfolding listSize
-returns c = (cc, search needs)
+returns c = (rw (c .u16-at .ensures) refl, search needs)
 
 pub list-size-spec : {M : Type 1} → statement M
 list-size-spec = tie.close (tie.spec u16-at-requires cast-result mul-result add-result returns)

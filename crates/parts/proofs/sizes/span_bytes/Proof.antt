@@ -1,5 +1,6 @@
 -- `parts::sizes::span_bytes` meets its contract. Assumes nothing.
 use Rattle.labels.specs.Decode.{spanBytes}
+use mathlib.Core.Path.{refl}
 use borrow.Author.Needs.{needs}
 use Rattle.parts.proofs.sizes.span_bytes.Statement.{statement}
 use Rattle.parts.proofs.sizes.span_bytes.Tie as tie
@@ -15,7 +16,7 @@ from-requires c κs = search needs
 
 returns : tie.Need-returns
 unfolding spanBytes
-returns c = cc
+returns c = rw (c .from .ensures, c .before .spans-at .ensures .0) refl
 
 pub span-bytes-spec : {M : Type 1} → statement M
 span-bytes-spec = tie.close (tie.spec spans-at-requires add-from from-requires returns)

@@ -1,5 +1,6 @@
 -- `parts::sizes::span_count` meets its contract. Assumes nothing.
 use Rattle.labels.specs.Decode.{spanCount}
+use mathlib.Core.Path.{refl}
 use borrow.Author.Needs.{needs}
 use Rattle.parts.proofs.sizes.span_count.Statement.{statement}
 use Rattle.parts.proofs.sizes.span_count.Tie as tie
@@ -15,7 +16,7 @@ cast-result c = search needs
 
 returns : tie.Need-returns
 unfolding spanCount
-returns c = (cc, search needs)
+returns c = (rw (c .u8-at .ensures, c .before .spans-at .ensures .0) refl, search needs)
 
 pub span-count-spec : {M : Type 1} → statement M
 span-count-spec = tie.close (tie.spec spans-at-requires u8-at-requires cast-result returns)

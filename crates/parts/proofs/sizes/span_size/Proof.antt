@@ -1,5 +1,6 @@
 -- `parts::sizes::span_size` meets its contract. Assumes nothing.
 use Rattle.labels.specs.Decode.{spanSize}
+use mathlib.Core.Path.{refl}
 use borrow.Author.Needs.{needs}
 use Rattle.parts.proofs.sizes.span_size.Statement.{statement}
 use Rattle.parts.proofs.sizes.span_size.Tie as tie
@@ -21,7 +22,7 @@ add-result-2 c = search needs
 
 returns : tie.Need-returns
 unfolding spanSize
-returns c = (cc, search needs)
+returns c = (rw (c .before .glyphs-at .ensures .0, c .glyph-count .ensures .0) refl, search needs)
 
 pub span-size-spec : {M : Type 1} → statement M
 span-size-spec =

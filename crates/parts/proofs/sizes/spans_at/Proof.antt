@@ -1,5 +1,6 @@
 -- `parts::sizes::spans_at` meets its contract. Assumes nothing.
 use Rattle.labels.specs.Decode.{spansAt}
+use mathlib.Core.Path.{refl}
 use borrow.Author.Needs.{needs}
 use Rattle.parts.proofs.sizes.spans_at.Statement.{statement}
 use Rattle.parts.proofs.sizes.spans_at.Tie as tie
@@ -12,7 +13,7 @@ add-result c = search needs
 
 returns : tie.Need-returns
 unfolding spansAt
-returns c = (cc, search needs)
+returns c = (rw (c .text-size .ensures .0) refl, search needs)
 
 pub spans-at-spec : {M : Type 1} → statement M
 spans-at-spec = tie.close (tie.spec text-size-requires add-result returns)

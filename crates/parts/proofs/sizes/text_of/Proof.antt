@@ -1,5 +1,6 @@
 -- `parts::sizes::text_of` meets its contract. Assumes nothing.
 use Rattle.labels.specs.Decode.{chunkOf}
+use mathlib.Core.Path.{refl}
 use borrow.Author.Needs.{needs}
 use Rattle.parts.proofs.sizes.text_of.Statement.{statement}
 use Rattle.parts.proofs.sizes.text_of.Tie as tie
@@ -12,7 +13,7 @@ part-requires c κs = search needs
 
 returns : tie.Need-returns
 unfolding chunkOf
-returns c = cc
+returns c = rw (c .part .ensures, c .before .text-size .ensures .0) refl
 
 pub text-of-spec : {M : Type 1} → statement M
 text-of-spec = tie.close (tie.spec text-size-requires part-requires returns)

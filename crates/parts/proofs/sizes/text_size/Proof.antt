@@ -1,5 +1,6 @@
 -- `parts::sizes::text_size` meets its contract. Assumes nothing.
 use Rattle.labels.specs.Decode.{textSize}
+use mathlib.Core.Path.{refl}
 use borrow.Author.Needs.{needs}
 use Rattle.parts.proofs.sizes.text_size.Statement.{statement}
 use Rattle.parts.proofs.sizes.text_size.Tie as tie
@@ -12,7 +13,7 @@ cast-result c = search needs
 
 returns : tie.Need-returns
 unfolding textSize
-returns c = (cc, search needs)
+returns c = (rw (c .u16-at .ensures) refl, search needs)
 
 pub text-size-spec : {M : Type 1} → statement M
 text-size-spec = tie.close (tie.spec u16-at-requires cast-result returns)

@@ -1,5 +1,5 @@
 -- `wire::place::part` meets its contract: what is there of the part. Assumes nothing.
-use mathlib.Core.Path.{sym, _∙_, ap}
+use mathlib.Core.Path.{refl, sym, _∙_, ap}
 use lib.ListN.{take}
 use lib.Seq.{take-all, length-take-le}
 use native.Mathlib.Omega.{arith}
@@ -14,7 +14,7 @@ slice-aggregate-result : tie.Need-slice-aggregate-result
 slice-aggregate-result c = sym (length-take-le _ _ (c .before .if1 .taken))
 
 returns : tie.Need-returns
-returns c = rw (c .before .before .from .ensures)
+returns c = rw (c .before .before .from .ensures) refl
 
 returns-2 : tie.Need-returns-2
 returns-2 c =

@@ -21,7 +21,7 @@ float-to-bits-result c = same-no-nan (c .before .args .x) (c .if1 .left)
 
 returns : tie.Need-returns
 unfolding toBits
-returns c = rw (differs-nan (c .before .args .x) (c .if1 .taken))
+returns c = rw (differs-nan (c .before .args .x) (c .if1 .taken)) refl
 
 returns-2 : tie.Need-returns-2
 returns-2 c = refl

@@ -1,5 +1,6 @@
 -- `wire::write::put_f32` meets its contract. Assumes nothing.
 use Rattle.labels.specs.Bytes.{floatBytes}
+use mathlib.Core.Path.{refl}
 use borrow.Author.Needs.{needs}
 use Rattle.wire.proofs.write.put_f32.Statement.{statement}
 use Rattle.wire.proofs.write.put_f32.Tie as tie
@@ -15,7 +16,7 @@ same-length c = search needs
 
 returns : tie.Need-returns
 unfolding floatBytes
-returns c = rw (← c .before .before .before .bits-of .ensures) (c .before .before .put-u32 .ensures)
+returns c = rw (c .before .before .put-u32 .ensures, c .before .before .before .bits-of .ensures) refl
 
 pub put-f32-spec : {M : Type 1} → statement M
 put-f32-spec = tie.close (tie.spec bits-of-requires put-u32-requires same-length returns)
