@@ -49,8 +49,8 @@ module _ {A S : Type 0} (next : S → A → S) (f : S → A → A) where
   unfolding scan
   scan-done s xs i h = rw (drop-of-length-le xs h) (append-nil (take i xs) ∙ take-all i xs h)
 
--- a map is a scan with no state
-pub scan-map : {A : Type 0} (f : A → A) (xs : List A) → scan (λ (s : Unit {0}) (x : A). s) (λ (s : Unit {0}). f) tt xs ≡ map f xs
+-- a map is a scan whose state stays
+pub scan-map : {A S : Type 0} (s : S) (f : A → A) (xs : List A) → scan (λ (s : S) (x : A). s) (λ (s : S). f) s xs ≡ map f xs
 unfolding scan
-scan-map f [] = refl
-scan-map {A} f (x ∷ xs) = ap {B = List A} (λ r. f x ∷ r) (scan-map f xs)
+scan-map s f [] = refl
+scan-map {A} s f (x ∷ xs) = ap {B = List A} (λ r. f x ∷ r) (scan-map s f xs)

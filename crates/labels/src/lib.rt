@@ -160,12 +160,12 @@ pub enum AlignmentBaseline {
 // its glyphs in the merged list (the place of the first, and how many), its marks, and its floats.
 // spacing: length spacing (text_length_spacing); shift x and shift y are the steps of its transform.
 pub struct Cluster {
-    pub index: u16,
+    pub index: u32,
     pub tag: u32,
     pub upright: bool,
-    pub span: usize,
-    pub from: usize,
-    pub count: usize,
+    pub span: u32,
+    pub from: u32,
+    pub count: u32,
     pub relative: bool,
     pub scaled: bool,
     pub rotated: bool,

@@ -1,8 +1,10 @@
 -- What holds of all elements of a list, of all conditions, of all records that are read; and what folds and branches keep. Assumes nothing.
-use Prim.Native.Nat.{ℕ, zero, suc}
-use mathlib.Core.Bool.{Bool, true, false, cond}
+use Prim.Native.Nat.{ℕ, zero, suc, _<_}
+use native.Mathlib.Nat.{le-of-suc-le-suc, not-suc-le-zero}
+use mathlib.Core.Path.{_≡_, refl}
+use mathlib.Core.Bool.{Bool, true, false, cond, _&&_}
 use mathlib.Core.List.{List, [], _∷_, _++_, map, foldl}
-use lib.ListN.{take, drop, set, getD}
+use lib.ListN.{length, take, drop, set, getD}
 use lib.Dec.{T}
 use lib.Ieee.Fits.{and-l, and-r}
 use Rattle.labels.specs.Lists.{all, every, modify, scan}
@@ -103,3 +105,19 @@ fold-keeps P f h b p (x ∷ xs) = fold-keeps P f h (f b x) (h b x p) xs
 pub cond-keeps : {A : Type 0} (P : A → Type 0) (b : Bool) {x y : A} → P x → P y → P (cond b x y)
 cond-keeps P true p q = p
 cond-keeps P false p q = q
+
+-- ---- tests that hold of all
+
+pub and-left : (a b : Bool) → (a && b) ≡ true → a ≡ true
+and-left true b e = refl
+and-left false b e = e
+
+pub and-right : (a b : Bool) → (a && b) ≡ true → b ≡ true
+and-right true b e = e
+and-right false b e = cc
+
+pub all-at : {A : Type 0} (p : A → Bool) (xs : List A) (i : ℕ) (d : A) → all p xs ≡ true → i < length xs → p (getD xs i d) ≡ true
+unfolding all
+all-at p [] i d e h = absurd (not-suc-le-zero h)
+all-at p (x ∷ xs) zero d e h = and-left (p x) (all p xs) e
+all-at p (x ∷ xs) (suc i) d e h = all-at p xs i d (and-right (p x) (all p xs) e) (le-of-suc-le-suc h)

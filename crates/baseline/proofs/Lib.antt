@@ -1,0 +1,2 @@
+pub mod Backwards
+pub mod Shifts

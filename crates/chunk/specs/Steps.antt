@@ -1,0 +1,35 @@
+-- Steps 2 to 6 of what they read: the writing mode, the fonts, the text, the spans and the merged glyphs. Definitions only.
+use Prim.Native.Nat.{ℕ, _≤_}
+use mathlib.Core.Path.{_≡_}
+use lib.ListN.{take}
+use mathlib.Core.List.{List, map}
+use Rattle.labels.specs.Outcome.{Outcome, refused, given}
+use Rattle.labels.specs.declared.Font.{Font}
+use Rattle.labels.specs.declared.Glyph.{Glyph}
+use Rattle.labels.specs.declared.Span.{Span}
+use Rattle.labels.specs.Group.{groups}
+use Rattle.labels.specs.Spacing.{applyLetterSpacing, applyWordSpacing}
+use Rattle.labels.specs.declared.Cluster.{Cluster}
+use Rattle.labels.specs.Cluster.{rounded, formGlyphClusters, applyWritingMode, applyLengthAdjust}
+use Rattle.labels.specs.Position.{logicalOrder}
+use Rattle.clusters.specs.Clusters.{indexesIn}
+use Rattle.sorting.specs.Sorted.{keyOf}
+use Rattle.chunk.specs.declared.Formed.{Formed}
+use Rattle.chunk.specs.declared.Formed.the-variants as F
+
+unfoldable pub collapsedOf : ℕ → List Font → List Span → List Glyph → List Cluster
+collapsedOf mode fonts spans gs =
+    applyLetterSpacing rounded spans (applyWritingMode mode (map (formGlyphClusters fonts spans) (groups spans gs)))
+
+unfoldable pub adjustedOf : ℕ → List Font → List ℕ → List Span → List Glyph → Outcome (List Cluster)
+adjustedOf mode fonts text spans gs = applyLengthAdjust spans (applyWordSpacing rounded text spans (collapsedOf mode fonts spans gs))
+
+-- the answer to a chunk's steps 2 to 6, with the clusters that the first n rows hold
+unfoldable pub formedOf : Formed → (ℕ → List Cluster) → Outcome (List Cluster)
+formedOf (F.Clusters n) rows = given (rows n)
+formedOf (F.Refused k) rows = refused k
+
+-- ready for step 7: there are at most `count` clusters, and the text order is that of the byte indexes that the words hold
+abbrev pub Ready : Formed → ℕ → List ℕ → List (List ℕ) → Type 0
+Ready (F.Clusters n) count order words = (n ≤ count) × (take n order ≡ map keyOf (logicalOrder (indexesIn words n)))
+Ready (F.Refused k) count order words = Unit {0}

@@ -1,0 +1,74 @@
+-- The glyphs of a merged list by their places, and the spans: the next one, and a part of them. Assumes nothing.
+use Prim.Native.Nat.{ℕ, zero, suc, _+_, _-_, _≤_, _<_}
+use mathlib.Core.Path.{_≡_, refl, ap, _∙_}
+use mathlib.Core.Bool.{true}
+use mathlib.Core.List.{List, [], _∷_, map}
+use native.Mathlib.Numerals.{add-one}
+use native.Mathlib.Omega.{arith}
+use lib.ListN.{length, getD, take, drop, length-map, length-take, length-drop, drop-of-length-le}
+use lib.Seq.{take-nil, drop-cons, getD-take, take-take, length-take-le}
+use Rattle.labels.specs.Decode.{glyphOf, spanOf}
+use Rattle.lookup.specs.Rows.{spansIn, glyphsIn}
+use Rattle.lookup.proofs.Rows.{map-in}
+use Rattle.forming.proofs.Passing.{all-take, all-drop}
+use Rattle.forming.specs.Groups.{glyphIn, widthsOk}
+
+-- ---- a list that is mapped
+
+map-next : {A B : Type 0} (f : A → B) (l : List A) (i : ℕ) (d : A) → i < length l → drop i (map f l) ≡ f (getD l i d) ∷ drop (i + 1) (map f l)
+map-next f l i d h =
+    let h₁ : i < length (map f l) = rw (length-map l f) h in
+    rw (add-one, drop-cons (map f l) i (f d) h₁, map-in f l i d (f d) h)
+
+map-take : {A B : Type 0} (f : A → B) (n : ℕ) (l : List A) → take n (map f l) ≡ map f (take n l)
+map-take f zero l = refl
+map-take f (suc n) [] = refl
+map-take f (suc n) (x ∷ l) = ap {B = List _} (λ r. f x ∷ r) (map-take f n l)
+
+-- n elements behind the first i are those from i to i + n
+take-drop : {A : Type 0} (n i : ℕ) (l : List A) → take n (drop i l) ≡ drop i (take (i + n) l)
+take-drop n zero l = let e : 0 + n ≡ n = omega arith in rw e
+take-drop n (suc i) [] = let e : suc i + n ≡ suc (i + n) = omega arith in rw (e, take-nil n)
+take-drop n (suc i) (x ∷ l) = let e : suc i + n ≡ suc (i + n) = omega arith in rw e (take-drop n i l)
+
+-- ---- the next span and the next glyph
+
+pub span-next : (s places : List ℕ) (k : ℕ) → k < length places
+    → drop k (spansIn s places) ≡ spanOf (drop (getD places k 0) s) ∷ drop (k + 1) (spansIn s places)
+unfolding spansIn
+span-next s places k h = map-next (λ (at : ℕ). spanOf (drop at s)) places k 0 h
+
+pub spans-length : (s places : List ℕ) → length (spansIn s places) ≡ length places
+unfolding spansIn
+spans-length s places = length-map places _
+
+module _ (s rows : List ℕ) (n : ℕ) where
+  pub glyph-next : (i : ℕ) → i < n → n ≤ length rows → drop i (glyphsIn s rows n) ≡ glyphIn s rows i ∷ drop (i + 1) (glyphsIn s rows n)
+  unfolding glyphsIn
+  glyph-next i h k =
+      let h₁ : i < length (take n rows) = simp length-take (omega arith) in
+      rw (map-next (λ (at : ℕ). glyphOf (drop at s)) (take n rows) i 0 h₁, getD-take n rows i 0)
+
+  pub glyphs-length : n ≤ length rows → length (glyphsIn s rows n) ≡ n
+  unfolding glyphsIn
+  glyphs-length h = length-map (take n rows) _ ∙ length-take-le n rows h
+
+  pub glyphs-end : (i : ℕ) → n ≤ i → n ≤ length rows → drop i (glyphsIn s rows n) ≡ []
+  glyphs-end i h k = drop-of-length-le (glyphsIn s rows n) {i = i} (rw (glyphs-length k) h)
+
+  pub part-length : (i : ℕ) → n ≤ length rows → length (drop i (glyphsIn s rows n)) ≡ n - i
+  part-length i h = length-drop i (glyphsIn s rows n) ∙ ap (λ (m : ℕ). m - i) (glyphs-length h)
+
+-- ---- a part of the glyphs
+
+module _ (s rows : List ℕ) (n end : ℕ) (h : end ≤ n) where
+  pub glyphs-take : glyphsIn s rows end ≡ take end (glyphsIn s rows n)
+  unfolding glyphsIn
+  glyphs-take = rw (map-take, take-take end n rows h)
+
+  -- those from i to end
+  pub glyphs-part : (i m : ℕ) → end ≡ i + m → take m (drop i (glyphsIn s rows n)) ≡ drop i (glyphsIn s rows end)
+  glyphs-part i m e = rw (glyphs-take, e) (take-drop m i (glyphsIn s rows n))
+
+  pub widths-part : (i : ℕ) → widthsOk (glyphsIn s rows n) ≡ true → widthsOk (drop i (glyphsIn s rows end)) ≡ true
+  widths-part i e = rw glyphs-take (all-drop _ i (take end (glyphsIn s rows n)) (all-take _ end (glyphsIn s rows n) e))

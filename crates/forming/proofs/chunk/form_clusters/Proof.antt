@@ -1,0 +1,170 @@
+-- `forming::chunk::form_clusters` meets its contract: the clusters so far and those of the groups that are left are all of them. Assumes nothing.
+use native.Mathlib.Omega.{arith}
+use Prim.Native.Nat.{ℕ, _-_, _≤_, _<_}
+use mathlib.Core.Path.{_≡_, refl, sym, ap, _∙_}
+use mathlib.Core.Bool.{true}
+use mathlib.Core.List.{map}
+use lib.ListN.{length, length-set}
+use lib.Dec.{ltb}
+use borrow.Author.Tests.{lt-ltb}
+use Rattle.labels.specs.Lists.{all}
+use Rattle.labels.specs.Group.{groups}
+use Rattle.labels.specs.Cluster.{formGlyphClusters}
+use Rattle.clusters.specs.Clusters.{indexesIn}
+use Rattle.lookup.specs.Rows.{fontsIn, spansIn, glyphsIn}
+use Rattle.forming.proofs.Glyphs.{widths-part}
+use Rattle.forming.proofs.Turns.{groupsFrom, groups-start, groups-end, groups-kept, groups-passed, formed, formed-none, formed-all, formed-turn, indexes-none, indexes-turn}
+use borrow.Author.Needs.{needs}
+use Rattle.forming.proofs.chunk.form_clusters.Statement.{statement}
+use Rattle.forming.proofs.chunk.form_clusters.Tie as tie
+
+abbrev Inv-loop : tie.InvT-loop
+Inv-loop s fonts spans rows count floats₀ words₀ n₀ i₀ floats words n i =
+    let form = formGlyphClusters (fontsIn s fonts) (spansIn s spans) in
+    (length floats ≡ length floats₀) × (length words ≡ length words₀) × (n ≤ i) × (i ≤ count)
+    × (formed form floats words n (groupsFrom s spans rows count i) ≡ map form (groups (spansIn s spans) (glyphsIn s rows count)))
+    × (all (λ (i : ℕ). ltb i 65536) (indexesIn words n) ≡ true)
+
+abbrev μ-loop : tie.MeasureT-loop
+μ-loop s fonts spans rows count floats₀ words₀ n₀ i₀ floats words n i = count - i
+
+loop-holds : tie.Need-loop-holds Inv-loop μ-loop
+loop-holds c =
+    let a = c .before .before .before .args in
+    let form = formGlyphClusters (fontsIn (a .s .now) (a .fonts)) (spansIn (a .s .now) (a .spans .now)) in
+    let left = groupsFrom (a .s .now) (a .spans .now) (a .rows .now) (a .count) 0 in (
+      refl,
+      refl,
+      omega arith,
+      omega arith,
+      formed-none form (a .floats .now) (a .words .now) left ∙ ap (map form) (groups-start (a .s .now) (a .spans .now) (a .rows .now) (a .count)),
+      indexes-none _ (a .words .now),
+    )
+
+run-end-requires : tie.Need-run-end-requires Inv-loop μ-loop
+run-end-requires c κs = search needs
+
+index-in-requires : tie.Need-index-in-requires Inv-loop μ-loop
+index-in-requires c κs = search needs
+
+cast-chunk-span-at : tie.Need-cast-chunk-span-at Inv-loop μ-loop
+cast-chunk-span-at c = search needs
+
+chunk-span-at-requires : tie.Need-chunk-span-at-requires Inv-loop μ-loop
+chunk-span-at-requires c κs = search needs
+
+form-glyph-clusters-requires : tie.Need-form-glyph-clusters-requires Inv-loop μ-loop
+form-glyph-clusters-requires c κs =
+    let covered = c .before .before .if1 .taken in
+    let ended = c .before .before .before .before .before in
+    let at = ended .before .before in
+    let start = at .before .before .before .before in
+    let a = start .args in
+    let given = start .pre in
+    let run = ended .run-end .ensures in
+    (run .1, omega arith, omega arith, omega arith, widths-part (a .s .now) (a .rows .now) (a .count) _ (run .2) (at .loop .i) (given .5))
+
+put-cluster-requires : tie.Need-put-cluster-requires Inv-loop μ-loop
+put-cluster-requires c κs =
+    let in-loop = c .before .before .before .before .before .before .before in
+    let i = in-loop .loop-test .taken in
+    let l = in-loop .before .loop in
+    let given = in-loop .before .before .before .before .before .pre in
+    (omega arith, omega arith)
+
+add-n : tie.Need-add-n Inv-loop μ-loop
+add-n c =
+    let in-loop = c .before .before .before .before .before .before .before .before .before .before in
+    let i = in-loop .loop-test .taken in
+    let l = in-loop .before .loop in
+    let given = in-loop .before .before .before .before .before .pre in
+    omega arith
+
+loop-less : tie.Need-loop-less Inv-loop μ-loop
+loop-less c =
+    let ended = c .before .before .before .before .before .before .before .before .before in
+    omega (arith, ended .before .loop-test .taken, ended .run-end .ensures .1)
+
+loop-again : tie.Need-loop-again Inv-loop μ-loop
+loop-again c =
+    let put = c .before .before .put-cluster .ensures in
+    let made = c .before .before .before in
+    let r = made .form-glyph-clusters in
+    let covered = made .before .before .before .if1 .taken in
+    let spanned = made .before .before .before .before in
+    let indexed = spanned .before in
+    let ended = indexed .before in
+    let run = ended .run-end .ensures in
+    let i = ended .before .loop-test .taken in
+    let at = ended .before .before in
+    let start = at .before .before .before .before in
+    let a = start .args in
+    let given = start .pre in
+    let l = at .loop in
+    let form = formGlyphClusters (fontsIn (a .s .now) (a .fonts)) (spansIn (a .s .now) (a .spans .now)) in
+    let next = groups-kept (a .s .now) (a .spans .now) (a .rows .now) (a .count) (l .i) _ _ _ (given .0) run (indexed .index-in .ensures) (spanned .chunk-span-at .ensures) covered in
+    let q : l .n < length (l .words) = omega arith in (
+      rw (put .0, length-set (l .floats)) (l .inv .0),
+      rw (put .1, length-set (l .words)) (l .inv .1),
+      omega arith,
+      run .2,
+      formed-turn (l .floats) (l .words) (l .n) (r .result) (put .0) (put .1) q form (r .ensures .0) next (omega arith) ∙ l .inv .4,
+      indexes-turn (l .floats) (l .words) (l .n) (r .result) (put .0) (put .1) q _ (lt-ltb _ _ (r .ensures .1)) (l .inv .5),
+    )
+
+loop-less-2 : tie.Need-loop-less-2 Inv-loop μ-loop
+loop-less-2 c =
+    let ended = c .before .before .before in
+    omega (arith, ended .before .loop-test .taken, ended .run-end .ensures .1)
+
+loop-again-2 : tie.Need-loop-again-2 Inv-loop μ-loop
+loop-again-2 c =
+    let spanned = c .before in
+    let indexed = spanned .before in
+    let ended = indexed .before in
+    let run = ended .run-end .ensures in
+    let at = ended .before .before in
+    let start = at .before .before .before .before in
+    let a = start .args in
+    let given = start .pre in
+    let l = at .loop in
+    let form = formGlyphClusters (fontsIn (a .s .now) (a .fonts)) (spansIn (a .s .now) (a .spans .now)) in
+    let next = groups-passed (a .s .now) (a .spans .now) (a .rows .now) (a .count) (l .i) _ _ _ (given .0) run (indexed .index-in .ensures) (spanned .chunk-span-at .ensures) (c .if1 .left) in
+    (l .inv .0, l .inv .1, omega arith, run .2, ap (formed form (l .floats) (l .words) (l .n)) (sym next) ∙ l .inv .4, l .inv .5)
+
+same-length : tie.Need-same-length Inv-loop μ-loop
+same-length c = search needs
+
+same-length-2 : tie.Need-same-length-2 Inv-loop μ-loop
+same-length-2 c = search needs
+
+returns : tie.Need-returns Inv-loop μ-loop
+returns c =
+    let l = c .before .loop in
+    let start = c .before .before .before .before .before in
+    let a = start .args in
+    let form = formGlyphClusters (fontsIn (a .s .now) (a .fonts)) (spansIn (a .s .now) (a .spans .now)) in
+    let none = groups-end (a .s .now) (a .spans .now) (a .rows .now) (a .count) (l .i) (start .pre .0) (omega arith) in
+    (sym (formed-all form (l .floats) (l .words) (l .n) none) ∙ l .inv .4, omega arith, l .inv .5)
+
+pub form-clusters-spec : {M : Type 1} → statement M
+form-clusters-spec =
+    tie.close
+    (tie.spec
+    Inv-loop
+    μ-loop
+    loop-holds
+    run-end-requires
+    index-in-requires
+    cast-chunk-span-at
+    chunk-span-at-requires
+    form-glyph-clusters-requires
+    put-cluster-requires
+    add-n
+    loop-less
+    loop-again
+    loop-less-2
+    loop-again-2
+    same-length
+    same-length-2
+    returns)

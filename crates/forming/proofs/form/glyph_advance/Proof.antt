@@ -1,0 +1,48 @@
+-- `forming::form::glyph_advance` meets its contract. Assumes nothing.
+use borrow.Author.Tests.{leb-true}
+use mir.Facts.{toZ-ofZ}
+use Rattle.labels.specs.Decode.{glyphOf}
+use borrow.Author.Needs.{needs}
+use Rattle.forming.proofs.form.glyph_advance.Statement.{statement}
+use Rattle.forming.proofs.form.glyph_advance.Tie as tie
+
+from-requires : tie.Need-from-requires
+from-requires c κs = search needs
+
+u8-at-requires : tie.Need-u8-at-requires
+u8-at-requires c κs = search needs
+
+font-in-requires : tie.Need-font-in-requires
+font-in-requires c κs = search needs
+
+i32-at-requires : tie.Need-i32-at-requires
+i32-at-requires c κs = search needs
+
+measure-i32-requires : tie.Need-measure-i32-requires
+unfolding glyphOf
+measure-i32-requires c κs =
+    rw (toZ-ofZ (record { sfits = c .i32-at .ok }), c .i32-at .ensures, c .before .before .before .from .ensures)
+    (leb-true _ _ (c .before .before .before .before .before .pre))
+
+returns : tie.Need-returns
+unfolding glyphOf
+returns c =
+    rw (
+      c .measure-i32 .ensures,
+      toZ-ofZ (record { sfits = c .before .i32-at .ok }),
+      c .before .i32-at .ensures,
+      c .before .before .font-in .ensures,
+      c .before .before .before .u8-at .ensures,
+      c .before .before .before .before .from .ensures,
+    )
+
+pub glyph-advance-spec : {M : Type 1} → statement M
+glyph-advance-spec =
+    tie.close
+    (tie.spec
+    from-requires
+    u8-at-requires
+    font-in-requires
+    i32-at-requires
+    measure-i32-requires
+    returns)

@@ -1,0 +1,43 @@
+// Runs of neighbours of one byte index in a merged list (the Rust's `GlyphClusters`).
+use wire::place::from;
+use wire::read::u16_at;
+ghost use mathlib.Core.Path.{_≡_};
+ghost use mathlib.Core.List.{[]};
+ghost use Prim.Native.Nat.{_+_, _<_, _≤_};
+ghost use lib.ListN.{length, getD, drop};
+ghost use Rattle.labels.specs.Group.{glyphRuns};
+ghost use Rattle.lookup.specs.Rows.{glyphsIn};
+ghost use Rattle.forming.specs.Groups.{glyphIn};
+
+// Where the row of the glyph at place `i` stands.
+pub fn place_in(rows: &[u32], i: usize) -> usize
+    requires { ⌜ i < length (now rows) ⌝ }
+    ensures { λ r. ⌜ r ≡ getD (now (rows .entry)) i 0 ⌝ }
+{
+    rows[i] as usize
+}
+
+// Its byte index.
+pub fn index_in(s: &[u8], rows: &[u32], i: usize) -> u16
+    requires { ⌜ i < length (now rows) ⌝ }
+    ensures { λ r. ⌜ r ≡ glyphIn (now (s .entry)) (now (rows .entry)) i .index ⌝ }
+{
+    u16_at(from(s, place_in(rows, i)), 4)
+}
+
+// Where the run ends that begins at place `i`.
+pub fn run_end(s: &[u8], rows: &[u32], count: usize, i: usize) -> usize
+    requires { ⌜ (i < count) × (count ≤ length (now rows)) ⌝ }
+    ensures { λ r. ⌜ (r ≡ i + length (getD (glyphRuns (drop i (glyphsIn (now (s .entry)) (now (rows .entry)) count))) 0 []))
+        × (i < r) × (r ≤ count) ⌝ }
+{
+    let index = index_in(s, rows, i);
+    let mut end = i + 1;
+    while end < count {
+        if index_in(s, rows, end) != index {
+            return end;
+        }
+        end += 1;
+    }
+    end
+}

@@ -1,0 +1,67 @@
+-- Step 6 of one span, case by case. Assumes nothing.
+use Prim.Native.Nat.{ℕ}
+use mathlib.Core.Path.{_≡_, refl}
+use mathlib.Core.Bool.{Bool, true, false}
+use mathlib.Core.List.{List, [], _∷_, foldl}
+use native.Mathlib.Omega.{arith}
+use lib.ListN.{length}
+use lib.Ieee.{lt}
+use borrow.Author.Tests.{ne-eqb}
+use Rattle.labels.specs.Outcome.{refused, given}
+use Rattle.labels.specs.Lists.{modify, all, atOr}
+use Rattle.labels.specs.Single.{+0, _/ᶠ_, isZero, thousandth}
+use Rattle.labels.specs.declared.Span.{Span}
+use Rattle.labels.specs.declared.Cluster.{Cluster}
+use Rattle.labels.specs.LengthAdjust.{clusterIndexes, sumAt, spacingFactor, stretchedBy, adjustSpacingOf}
+use Rattle.labels.specs.ClusterParts.{withScale}
+use Rattle.labels.specs.Cluster.{rounded, widthOf, scaledBy, adjustGlyphsOf, adjustSpan}
+
+module _ (s : Span) (cs : List Cluster) where
+  -- ---- which way the span goes
+
+  pub span-free : (s .fixed ≡ 1 → ⊥) → adjustSpan (given cs) s ≡ given cs
+  unfolding adjustSpan
+  span-free h = rw (ne-eqb (s .fixed) 1 h)
+
+  pub span-spaced : s .fixed ≡ 1 → s .adjust ≡ 0 → adjustSpan (given cs) s ≡ given (adjustSpacingOf rounded s cs)
+  unfolding adjustSpan
+  span-spaced h a = rw (h, a)
+
+  pub span-scaled : s .fixed ≡ 1 → (s .adjust ≡ 0 → ⊥) → adjustSpan (given cs) s ≡ adjustGlyphsOf s cs (clusterIndexes rounded s cs)
+  unfolding adjustSpan
+  span-scaled h a = rw (h, ne-eqb (s .adjust) 0 a)
+
+  -- ---- Spacing, of the places that take part
+
+  pub spaced-at : (is : List ℕ) → is ≡ clusterIndexes rounded s cs
+      → adjustSpacingOf rounded s cs
+      ≡ foldl (modify (stretchedBy rounded (spacingFactor rounded (s .length) (sumAt rounded widthOf cs is) (length is)))) cs is
+  unfolding adjustSpacingOf
+  spaced-at is e = rw e
+
+  -- ---- SpacingAndGlyphs, of the places `is`
+
+  pub glyphs-none : (is : List ℕ) → length is ≡ 0 → adjustGlyphsOf s cs is ≡ given cs
+  unfolding adjustGlyphsOf
+  glyphs-none [] h = refl
+  glyphs-none (i ∷ is) h = absurd (omega arith)
+
+  abbrev flat : ℕ → Bool
+  flat k = isZero (atOr +0 widthOf cs k)
+
+  pub glyphs-refused : (is : List ℕ) → (length is ≡ 0 → ⊥) → all flat is ≡ true → adjustGlyphsOf s cs is ≡ refused 9
+  unfolding adjustGlyphsOf
+  glyphs-refused [] h z = absurd (h refl)
+  glyphs-refused (i ∷ is) h z = rw z
+
+  pub glyphs-skipped : (is : List ℕ) → (length is ≡ 0 → ⊥) → all flat is ≡ false → lt (s .length /ᶠ sumAt rounded widthOf cs is) thousandth ≡ true
+      → adjustGlyphsOf s cs is ≡ given cs
+  unfolding adjustGlyphsOf scaledBy
+  glyphs-skipped [] h z f = absurd (h refl)
+  glyphs-skipped (i ∷ is) h z f = rw (z, f)
+
+  pub glyphs-scaled : (is : List ℕ) → (length is ≡ 0 → ⊥) → all flat is ≡ false → lt (s .length /ᶠ sumAt rounded widthOf cs is) thousandth ≡ false
+      → adjustGlyphsOf s cs is ≡ given (foldl (modify (withScale (s .length /ᶠ sumAt rounded widthOf cs is))) cs is)
+  unfolding adjustGlyphsOf scaledBy
+  glyphs-scaled [] h z f = absurd (h refl)
+  glyphs-scaled (i ∷ is) h z f = rw (z, f)

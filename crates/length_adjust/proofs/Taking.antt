@@ -1,0 +1,129 @@
+-- The marks say which clusters take part: those that the span covers, and of one byte index only the first. Assumes nothing.
+use Prim.Native.Nat.{ℕ, zero, suc, _+_, _-_, _≤_}
+use mathlib.Core.Path.{_≡_, refl, sym, ap, ap₂, _∙_}
+use mathlib.Core.Bool.{Bool, true, false, not, cond, _||_, _&&_}
+use mathlib.Core.List.{List, [], _∷_, map}
+use native.Mathlib.Nat.{le-refl}
+use native.Mathlib.Omega.{arith}
+use lib.ListN.{length, take, set, replicate, length-map}
+use lib.Seq.{length-take-le}
+use lib.Dec.{eqb, leb, ltb}
+use borrow.Author.Tests.{eq-eqb, ne-eqb, lt-ltb, le-ltb, le-leb, lt-leb}
+use Rattle.labels.specs.Lists.{any, among, findIdx}
+use Rattle.labels.specs.declared.Span.{Span}
+use Rattle.labels.specs.Position.{logicalOrder}
+use Rattle.labels.specs.LengthAdjust.{placesFrom}
+use Rattle.clusters.specs.Clusters.{indexesIn}
+use Rattle.sorting.specs.Sorted.{keyOf}
+use Rattle.sorting.proofs.Cases.{in-order}
+use Rattle.sorting.proofs.TextKeys.{order-keys}
+use Rattle.length_adjust.specs.Marks.{markedFrom, marked, mark, takingPart}
+use Rattle.length_adjust.proofs.Cases.{same-or-not}
+use Rattle.length_adjust.proofs.Firsts.{upFrom, found-places}
+
+-- 1 for each byte index that takes part where a span goes from lo to hi; `seen` came before
+abbrev takes : ℕ → ℕ → List ℕ → ℕ → Bool
+takes lo hi seen i = (leb lo i && ltb i hi) && not (among i seen)
+
+abbrev marksTo : ℕ → ℕ → List ℕ → List ℕ → List ℕ
+marksTo lo hi seen [] = []
+marksTo lo hi seen (i ∷ is) = cond (takes lo hi seen i) 1 0 ∷ marksTo lo hi (i ∷ seen) is
+
+-- ---- they are the definition's places
+
+places-marked : (s : Span) (seen : List ℕ) (k : ℕ) (is : List ℕ) → markedFrom k (marksTo (s .start) (s .end) seen is) ≡ placesFrom s seen k is
+unfolding markedFrom placesFrom
+places-marked s seen k [] = refl
+places-marked s seen k (i ∷ is) = go (takes (s .start) (s .end) seen i) (places-marked s (i ∷ seen) (k + 1) is)
+  where
+    go : (b : Bool) {xs ys : List ℕ} → xs ≡ ys → cond (eqb (cond b 1 0) 1) (k ∷ xs) xs ≡ cond b (k ∷ ys) ys
+    go true e = ap {B = List ℕ} (λ r. k ∷ r) e
+    go false e = e
+
+-- ---- none before the first byte index, and one more with each
+
+no-marks : (lo hi : ℕ) → hi ≤ lo → (seen is : List ℕ) → marksTo lo hi seen is ≡ replicate (length is) 0
+no-marks lo hi h seen [] = refl
+no-marks lo hi h seen (i ∷ is) = ap₂ {C = List ℕ} (λ b bs. b ∷ bs) none (no-marks lo hi h (i ∷ seen) is)
+  where
+    none : _≡_ {A = ℕ} (cond (takes lo hi seen i) 1 0) 0
+    none = in-order {C = _≡_ {A = ℕ} (cond (takes lo hi seen i) 1 0) 0} lo i (λ l. rw (le-ltb i hi (omega arith), le-leb lo i l)) (λ l. rw (lt-leb lo i l))
+
+and-false : (b : Bool) → b && false ≡ false
+and-false true = refl
+and-false false = refl
+
+or-true : (b : Bool) → b || true ≡ true
+or-true true = refl
+or-true false = refl
+
+module _ (lo b : ℕ) where
+  -- another byte index
+  takes-other : (seen : List ℕ) (i : ℕ) → (i ≡ b → ⊥) → takes lo (b + 1) seen i ≡ takes lo b seen i
+  takes-other seen i e =
+      in-order b i (λ h. rw (le-ltb i b h, le-ltb i (b + 1) (omega arith))) (λ h. rw (lt-ltb i b h, lt-ltb i (b + 1) (omega arith)))
+
+  -- the byte index itself, once it was seen
+  takes-seen : (seen : List ℕ) (hi : ℕ) → among b seen ≡ true → takes lo hi seen b ≡ false
+  takes-seen seen hi e = rw e (and-false (leb lo b && ltb b hi))
+
+  marks-seen : (seen is : List ℕ) → among b seen ≡ true → marksTo lo (b + 1) seen is ≡ marksTo lo b seen is
+  unfolding any
+  marks-seen seen [] e = refl
+  marks-seen seen (i ∷ is) e =
+      let same : takes lo (b + 1) seen i ≡ takes lo b seen i =
+      same-or-not i b (λ q. rw q (takes-seen seen (b + 1) e ∙ sym (takes-seen seen b e))) (takes-other seen i) in
+      let more = marks-seen (i ∷ seen) is (rw e (or-true (eqb i b))) in
+      rw (same, more)
+
+  -- and where it was not: the first cluster of byte index b is marked
+  marks-more : lo ≤ b → (seen is : List ℕ) → among b seen ≡ false
+      → set (marksTo lo b seen is) (findIdx (λ (j : ℕ). eqb j b) is) 1 ≡ marksTo lo (b + 1) seen is
+  unfolding any findIdx
+  marks-more l seen [] e = refl
+  marks-more l seen (i ∷ is) e =
+      let more = marks-more l (i ∷ seen) is in
+      same-or-not i b
+      (λ q. let here : eqb b b ≡ true = eq-eqb b b refl in
+      let covered : takes lo (b + 1) seen b ≡ true = rw (le-leb lo b l, lt-ltb b (b + 1) (omega arith), e) in
+      rw (q, here, covered) (ap {B = List ℕ} (λ r. 1 ∷ r) (sym (marks-seen (b ∷ seen) is (rw here)))))
+      (λ q. let other : eqb i b ≡ false = ne-eqb i b q in
+      rw (other, more (rw other e), takes-other seen i q))
+
+-- ---- all byte indexes of a span
+
+module _ (is : List ℕ) where
+  abbrev firstPlace : ℕ → ℕ
+  firstPlace b = findIdx (λ (j : ℕ). eqb j b) is
+
+  marks-span : (lo m b : ℕ) → lo ≤ b → mark (marksTo lo b [] is) (upFrom firstPlace b m) ≡ marksTo lo (b + m) [] is
+  unfolding any
+  marks-span lo zero b h = let e : b + 0 ≡ b = omega arith in rw e
+  marks-span lo (suc m) b h =
+      let e : b + suc m ≡ b + 1 + m = omega arith in
+      ap (λ (ms : List ℕ). mark ms (upFrom firstPlace (b + 1) m)) (marks-more lo b h [] is refl) ∙ rw e (marks-span lo m (b + 1) (omega arith))
+
+  marks-are : (lo hi : ℕ) → mark (replicate (length is) 0) (upFrom firstPlace lo (hi - lo)) ≡ marksTo lo hi [] is
+  marks-are lo hi =
+      in-order lo hi
+      (λ h. let e : lo + (hi - lo) ≡ hi = omega arith in
+      rw (← (no-marks lo lo (le-refl lo) [] is)) (rw e at (marks-span lo (hi - lo) lo (le-refl lo))))
+      (λ h. let e : hi - lo ≡ 0 = omega arith in
+      rw e (sym (no-marks lo hi (omega arith) [] is)))
+
+indexes-length : (words : List (List ℕ)) (n : ℕ) → n ≤ length words → length (indexesIn words n) ≡ n
+unfolding indexesIn
+indexes-length words n h = length-map (take n words) _ ∙ length-take-le n words h
+
+-- the marks of the clusters of byte indexes `is`, found along their text order
+taking-part : (s : Span) (is keys : List ℕ) → length is ≤ 65536 → keys ≡ map keyOf (logicalOrder is)
+    → marked (takingPart s keys (length is)) ≡ placesFrom s [] 0 is
+taking-part s is keys h e =
+    rw (e, order-keys is h, found-places is (s .start) (s .end - s .start) h, marks-are is (s .start) (s .end)) (places-marked s [] 0 is)
+
+-- the same of n stored clusters
+pub marks-say : (s : Span) (words : List (List ℕ)) (n : ℕ) (keys : List ℕ) {marks : List ℕ} → n ≤ length words → n ≤ 65536
+    → keys ≡ map keyOf (logicalOrder (indexesIn words n)) → marks ≡ takingPart s keys n → marked marks ≡ placesFrom s [] 0 (indexesIn words n)
+marks-say s words n keys h g e q =
+    let l = indexes-length words n h in
+    ap marked q ∙ ap (λ (k : ℕ). marked (takingPart s keys k)) (sym l) ∙ taking-part s (indexesIn words n) keys (rw l g) e

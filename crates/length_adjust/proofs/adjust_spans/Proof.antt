@@ -1,0 +1,165 @@
+-- `length_adjust::adjust_spans` meets its contract. Assumes nothing.
+use Prim.Native.Nat.{ℕ, _+_, _-_, _≤_, _<_}
+use mathlib.Core.Path.{_≡_, refl, sym, ap, _∙_}
+use mathlib.Core.List.{List, foldl}
+use lib.ListN.{length, drop, length-map}
+use Rattle.labels.specs.Outcome.{Outcome, refused, given}
+use Rattle.labels.specs.Job.{blankSpan, spanAt}
+use Rattle.labels.specs.declared.Cluster.{Cluster}
+use Rattle.labels.proofs.Loops.{fold-turn, fold-done}
+use Rattle.labels.specs.Cluster.{adjustSpan, applyLengthAdjust}
+use Rattle.clusters.specs.Clusters.{clustersOf, indexesIn}
+use Rattle.lookup.specs.Rows.{spansIn}
+use Rattle.length_adjust.specs.Answer.{adjustedOf}
+use Rattle.length_adjust.proofs.Kept.{span-order, refused-stays}
+use borrow.Author.Needs.{needs}
+use native.Mathlib.Omega.{arith}
+use Rattle.length_adjust.proofs.adjust_spans.Statement.{statement}
+use Rattle.length_adjust.proofs.adjust_spans.Tie as tie
+
+abbrev Inv-loop : tie.InvT-loop
+Inv-loop s spans keys marks₀ floats₀ words₀ i₀ marks floats words i =
+    (length marks ≡ length marks₀) × (length floats ≡ length floats₀) × (length words ≡ length words₀)
+    × (indexesIn words (length marks₀) ≡ indexesIn words₀ (length marks₀))
+    × (foldl adjustSpan (given (clustersOf floats words (length marks₀))) (drop i (spansIn s spans))
+    ≡ applyLengthAdjust (spansIn s spans) (clustersOf floats₀ words₀ (length marks₀)))
+
+abbrev μ-loop : tie.MeasureT-loop
+μ-loop s spans keys marks₀ floats₀ words₀ i₀ marks floats words i = length spans - i
+
+spans-length : (s spans : List ℕ) → length (spansIn s spans) ≡ length spans
+unfolding spansIn
+spans-length s spans = length-map spans _
+
+-- a turn's span
+in-spans : (c : tie.After-adjust-span Inv-loop μ-loop) → let head = c .before .before .before .before .before .before in let a = head .before .before .before .before .before .args in
+    head .loop .i < length (spansIn (a .s .now) (a .spans .now))
+in-spans c =
+    let turn = c .before .before .before .before .before in
+    let a = turn .before .before .before .before .before .before .args in
+    rw (spans-length (a .s .now) (a .spans .now)) (turn .loop-test .taken)
+
+adjusted-span : (c : tie.After-adjust-span Inv-loop μ-loop) → let head = c .before .before .before .before .before .before in let a = head .before .before .before .before .before .args in
+    let l = head .loop in let n = length (a .marks .now) in
+    adjustedOf (c .adjust-span .result) (clustersOf (c .adjust-span .last .1 .1 .1 .0) (c .adjust-span .last .1 .1 .1 .1 .0) n)
+    ≡ adjustSpan (given (clustersOf (l .floats) (l .words) n)) (spanAt (spansIn (a .s .now) (a .spans .now)) (l .i))
+adjusted-span c =
+    let read = c .before .before .before .before in
+    let l = read .before .before .loop in
+    rw (l .inv .0, read .span-in .ensures) at (c .adjust-span .ensures)
+
+loop-holds : tie.Need-loop-holds Inv-loop μ-loop
+unfolding applyLengthAdjust
+loop-holds c = (refl, refl, refl, refl, refl)
+
+span-in-requires : tie.Need-span-in-requires Inv-loop μ-loop
+span-in-requires c κs = search needs
+
+adjust-span-requires : tie.Need-adjust-span-requires Inv-loop μ-loop
+adjust-span-requires c κs =
+    let head = c .before .before .before .before .before in
+    let start = head .before .before .before .before .before in
+    let l = head .loop in
+    (omega (arith, l .inv, start .pre), omega (arith, l .inv, start .pre), omega (arith, l .inv, start .pre), rw (l .inv .0, l .inv .3) (start .pre .3))
+
+enum-known-adjusted : tie.Need-enum-known-adjusted Inv-loop μ-loop
+enum-known-adjusted c = search needs
+
+same-length : tie.Need-same-length Inv-loop μ-loop
+same-length c = search needs
+
+same-length-2 : tie.Need-same-length-2 Inv-loop μ-loop
+same-length-2 c = search needs
+
+same-length-3 : tie.Need-same-length-3 Inv-loop μ-loop
+same-length-3 c = search needs
+
+returns : tie.Need-returns Inv-loop μ-loop
+unfolding adjustedOf
+returns c =
+    let made = c .before .before .before .before .before .before .before in
+    let head = made .before .before .before .before .before .before in
+    let a = head .before .before .before .before .before .args in
+    let l = head .loop in
+    let number = c .before .adjusted .given .0 .0 in
+    let spans = spansIn (a .s .now) (a .spans .now) in
+    let stopped : refused number ≡ adjustSpan (given (clustersOf (l .floats) (l .words) (length (a .marks .now)))) (spanAt spans (l .i)) = rw (c .before .adjusted .given .1) at (adjusted-span made) in
+    sym (refused-stays number (drop (l .i + 1) spans)) ∙ ap (λ (o : Outcome (List Cluster)). foldl adjustSpan o (drop (l .i + 1) spans)) stopped
+    ∙ fold-turn adjustSpan _ spans (l .i) blankSpan (in-spans made) ∙ l .inv .4
+
+enum-told : tie.Need-enum-told Inv-loop μ-loop
+enum-told c = search needs
+
+add-i : tie.Need-add-i Inv-loop μ-loop
+add-i c = search needs
+
+loop-less : tie.Need-loop-less Inv-loop μ-loop
+loop-less c = search needs
+
+loop-again : tie.Need-loop-again Inv-loop μ-loop
+unfolding adjustedOf
+loop-again c =
+    let made = c .before .before .before .before .before .before in
+    let head = made .before .before .before .before .before .before in
+    let start = head .before .before .before .before .before in
+    let a = start .args in
+    let l = head .loop in
+    let n = length (a .marks .now) in
+    let spans = spansIn (a .s .now) (a .spans .now) in
+    let floats = made .adjust-span .last .1 .1 .1 .0 in
+    let words = made .adjust-span .last .1 .1 .1 .1 .0 in
+    let marks = made .adjust-span .kept .1 .1 .0 ∙ l .inv .0 in
+    let rows = made .adjust-span .kept .1 .1 .1 .0 ∙ l .inv .1 in
+    let rows-too = made .adjust-span .kept .1 .1 .1 .1 .0 ∙ l .inv .2 in
+    let cs = clustersOf (l .floats) (l .words) n in
+    let gave : given (clustersOf floats words n) ≡ adjustSpan (given cs) (spanAt spans (l .i)) = rw (c .enum-told .given .1) at (adjusted-span made) in
+    let same =
+    span-order (l .floats) (l .words) floats words n (omega (arith, l .inv .1, start .pre)) (omega (arith, l .inv .2, start .pre))
+    (omega (arith, rows, start .pre)) (omega (arith, rows-too, start .pre)) (spanAt spans (l .i)) gave in (
+      marks,
+      rows,
+      rows-too,
+      same ∙ l .inv .3,
+      ap (λ (o : Outcome (List Cluster)). foldl adjustSpan o (drop (l .i + 1) spans)) gave ∙ fold-turn adjustSpan (given cs) spans (l .i) blankSpan (in-spans made) ∙ l .inv .4,
+    )
+
+same-length-4 : tie.Need-same-length-4 Inv-loop μ-loop
+same-length-4 c = search needs
+
+same-length-5 : tie.Need-same-length-5 Inv-loop μ-loop
+same-length-5 c = search needs
+
+same-length-6 : tie.Need-same-length-6 Inv-loop μ-loop
+same-length-6 c = search needs
+
+returns-2 : tie.Need-returns-2 Inv-loop μ-loop
+unfolding adjustedOf
+returns-2 c =
+    let a = c .before .before .before .before .before .before .args in
+    let l = c .before .loop in
+    let spans = spansIn (a .s .now) (a .spans .now) in
+    let none : length spans ≤ l .i = rw (spans-length (a .s .now) (a .spans .now)) (c .loop-test .left) in
+    sym (fold-done adjustSpan (given (clustersOf (l .floats) (l .words) (length (a .marks .now)))) spans (l .i) none) ∙ l .inv .4
+
+pub adjust-spans-spec : {M : Type 1} → statement M
+adjust-spans-spec =
+    tie.close
+    (tie.spec
+    Inv-loop
+    μ-loop
+    loop-holds
+    span-in-requires
+    adjust-span-requires
+    enum-known-adjusted
+    same-length
+    same-length-2
+    same-length-3
+    returns
+    enum-told
+    add-i
+    loop-less
+    loop-again
+    same-length-4
+    same-length-5
+    same-length-6
+    returns-2)

@@ -1,0 +1,47 @@
+-- `length_adjust::spacing::adjust_spacing` meets its contract. Assumes nothing.
+use mathlib.Core.Path.{_≡_, sym, ap, _∙_}
+use mathlib.Core.List.{[]}
+use lib.ListN.{length}
+use Rattle.labels.specs.LengthAdjust.{placesFrom, clusterIndexes}
+use Rattle.labels.specs.Cluster.{rounded}
+use Rattle.clusters.specs.Clusters.{clustersOf}
+use Rattle.clusters.proofs.Rows.{clusters-indexes}
+use Rattle.length_adjust.specs.Marks.{marked}
+use Rattle.length_adjust.proofs.Walks.{marked-few}
+use Rattle.length_adjust.proofs.Steps.{spaced-at}
+use native.Mathlib.Omega.{arith}
+use borrow.Author.Needs.{needs}
+use Rattle.length_adjust.proofs.spacing.adjust_spacing.Statement.{statement}
+use Rattle.length_adjust.proofs.spacing.adjust_spacing.Tie as tie
+
+widths-requires : tie.Need-widths-requires
+widths-requires c κs = search needs
+
+spacing-factor-requires : tie.Need-spacing-factor-requires
+spacing-factor-requires c κs =
+    let a = c .before .before .before .args in
+    rw (c .widths .ensures) (omega (arith, marked-few 0 (a .marks .now), c .before .before .before .pre))
+
+stretch-requires : tie.Need-stretch-requires
+stretch-requires c κs = search needs
+
+same-length : tie.Need-same-length
+same-length c = search needs
+
+returns : tie.Need-returns
+returns c =
+    let made = c .before in
+    let factor = made .before .before in
+    let total = factor .before in
+    let start = total .before .before .before in
+    let a = start .args in
+    let n = length (a .marks .now) in
+    let cs = clustersOf (a .floats .now) (a .words .now) n in
+    let same : marked (a .marks .now) ≡ clusterIndexes rounded (a .span) cs =
+    start .pre .3 ∙ ap (placesFrom (a .span) [] 0) (sym (clusters-indexes (a .floats .now) (a .words .now) n (start .pre .0) (start .pre .1))) in
+    rw (made .stretch .ensures, factor .spacing-factor .ensures, total .widths .ensures, spaced-at (a .span) cs (marked (a .marks .now)) same)
+
+pub adjust-spacing-spec : {M : Type 1} → statement M
+adjust-spacing-spec =
+    tie.close
+    (tie.spec widths-requires spacing-factor-requires stretch-requires same-length returns)

@@ -1,0 +1,99 @@
+-- `length_adjust::walk::widths` meets its contract. Assumes nothing.
+use mathlib.Core.Logic.{⊎-elim}
+use mathlib.Core.List.{List}
+use lib.Ieee.{Float}
+use Rattle.labels.specs.Lists.{atOr}
+use Rattle.labels.specs.Single.{+0, _+ᶠ_}
+use Prim.Native.Nat.{ℕ, _≤_, _-_}
+use mathlib.Core.Path.{_≡_, refl, sym, ap, _∙_}
+use lib.ListN.{length}
+use Rattle.labels.specs.LengthAdjust.{sumAt}
+use Rattle.labels.specs.Cluster.{rounded, widthOf}
+use Rattle.clusters.specs.Clusters.{clustersOf}
+use Rattle.clusters.proofs.Turns.{cluster-get}
+use Rattle.length_adjust.specs.Marks.{marked}
+use Rattle.length_adjust.proofs.Walks.{walked, walk-on, walk-past, walk-done, one-more, count-walk}
+use borrow.Author.Needs.{needs}
+use native.Mathlib.Omega.{arith}
+use Rattle.length_adjust.proofs.walk.widths.Statement.{statement}
+use Rattle.length_adjust.proofs.walk.widths.Tie as tie
+
+abbrev add-width : List (List Float) → List (List ℕ) → ℕ → Float → ℕ → Float
+add-width floats words n w k = w +ᶠ atOr +0 widthOf (clustersOf floats words n) k
+
+abbrev Inv-loop : tie.InvT-loop
+Inv-loop floats words marks sum₀ count₀ i₀ sum count i =
+    (count ≤ i) × (walked (add-width floats words (length marks)) sum marks i ≡ sumAt rounded widthOf (clustersOf floats words (length marks)) (marked marks))
+    × (walked one-more count marks i ≡ length (marked marks))
+
+abbrev μ-loop : tie.MeasureT-loop
+μ-loop floats words marks sum₀ count₀ i₀ sum count i = length marks - i
+
+loop-holds : tie.Need-loop-holds Inv-loop μ-loop
+loop-holds c = let a = c .before .args in (omega arith, refl, count-walk 0 (marked (a .marks .now)) ∙ omega arith)
+
+mul-if1 : tie.Need-mul-if1 Inv-loop μ-loop
+mul-if1 c = search needs
+
+shared-slice-read-if1 : tie.Need-shared-slice-read-if1 Inv-loop μ-loop
+shared-slice-read-if1 c = search needs
+
+cluster-at-requires : tie.Need-cluster-at-requires Inv-loop μ-loop
+cluster-at-requires c κs = search needs
+
+add-count : tie.Need-add-count Inv-loop μ-loop
+add-count c = search needs
+
+add-i : tie.Need-add-i Inv-loop μ-loop
+add-i c = search needs
+
+loop-less : tie.Need-loop-less Inv-loop μ-loop
+loop-less c = search needs
+
+loop-again : tie.Need-loop-again Inv-loop μ-loop
+loop-again c =
+    let head = c .before .before .before in
+    let a = head .before .before .args in
+    let l = head .loop in
+    let n = length (a .marks .now) in
+    let add = add-width (a .floats .now) (a .words .now) n in
+    let h = c .before .before .loop-test .taken in
+    ⊎-elim
+    (λ w. (
+      omega arith,
+      walk-on add (l .sum) (c .if1 .sum) (a .marks .now) (l .i) h (w .0 .taken)
+          (w .3 ∙ ap (λ (x : Float). l .sum +ᶠ x) (sym (cluster-get (a .floats .now) (a .words .now) n (l .i) (w .1 .result) (w .1 .ensures) h (omega arith) (omega arith) +0 widthOf)))
+          ∙ l .inv .1,
+      walk-on one-more (l .count) (c .if1 .count) (a .marks .now) (l .i) h (w .0 .taken) (w .4) ∙ l .inv .2,
+    ))
+    (λ w. (
+      omega arith,
+      walk-past add (l .sum) (c .if1 .sum) (a .marks .now) (l .i) h (w .0 .left) (w .1) ∙ l .inv .1,
+      walk-past one-more (l .count) (c .if1 .count) (a .marks .now) (l .i) h (w .0 .left) (w .2) ∙ l .inv .2,
+    ))
+    (c .if1 .came)
+
+returns : tie.Need-returns Inv-loop μ-loop
+returns c =
+    let a = c .before .before .before .args in
+    let l = c .before .loop in
+    let n = length (a .marks .now) in
+    let s = walk-done (add-width (a .floats .now) (a .words .now) n) (l .sum) (a .marks .now) (l .i) (c .loop-test .left) in
+    let k = walk-done one-more (l .count) (a .marks .now) (l .i) (c .loop-test .left) in
+    rw (← l .inv .1, ← l .inv .2, s, k)
+
+pub widths-spec : {M : Type 1} → statement M
+widths-spec =
+    tie.close
+    (tie.spec
+    Inv-loop
+    μ-loop
+    loop-holds
+    mul-if1
+    shared-slice-read-if1
+    cluster-at-requires
+    add-count
+    add-i
+    loop-less
+    loop-again
+    returns)

@@ -1,0 +1,41 @@
+// Text length by SpacingAndGlyphs.
+use crate::Adjusted;
+use crate::walk::all_zero;
+use crate::walk::scale;
+use crate::walk::widths;
+use labels::Span;
+ghost use mathlib.Core.Path.{_≡_};
+ghost use Prim.Native.Nat.{_≤_};
+ghost use lib.ListN.{length};
+ghost use Rattle.labels.specs.Cluster.{adjustGlyphsOf};
+ghost use Rattle.clusters.specs.Clusters.{clustersOf};
+ghost use Rattle.length_adjust.specs.Marks.{marked};
+ghost use Rattle.length_adjust.specs.Answer.{adjustedOf};
+
+// Of the marked clusters.
+pub fn adjust_glyphs(
+    span: Span,
+    floats: &mut [[f32; 10]],
+    words: &mut [[u32; 6]],
+    marks: &[u32],
+) -> Adjusted
+    requires { ⌜ (length (now marks) ≤ length (now floats)) × (length (now marks) ≤ length (now words)) ⌝ }
+    ensures { λ r. ⌜ adjustedOf r (clustersOf (now (floats .exit)) (now (words .exit)) (length (now (marks .entry))))
+        ≡ adjustGlyphsOf span (clustersOf (now (floats .entry)) (now (words .entry)) (length (now (marks .entry)))) (marked (now (marks .entry))) ⌝ }
+{
+    let total = widths(floats, words, marks);
+    let sum = total.sum;
+    if total.count == 0 {
+        return Adjusted::Done;
+    }
+    let flat = all_zero(floats, words, marks);
+    if flat {
+        return Adjusted::Refused(9);
+    }
+    let factor = span.length / sum;
+    if factor < 0.001 {
+        return Adjusted::Done;
+    }
+    scale(floats, words, marks, factor);
+    Adjusted::Done
+}

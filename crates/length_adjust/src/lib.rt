@@ -1,0 +1,95 @@
+// Step 6: the clusters of a span with a text length are brought to that length, by spacing or by scaling.
+pub mod find;
+pub mod glyphs;
+pub mod spacing;
+pub mod walk;
+
+use crate::find::mark_span;
+use crate::glyphs::adjust_glyphs;
+use crate::spacing::adjust_spacing;
+use labels::Span;
+use lookup::span_in;
+ghost use mathlib.Core.Path.{_≡_};
+ghost use Prim.Native.Nat.{_≤_};
+ghost use mathlib.Core.List.{map};
+ghost use lib.ListN.{length, take};
+ghost use Rattle.labels.specs.Outcome.{given};
+ghost use Rattle.labels.specs.Position.{logicalOrder};
+ghost use Rattle.labels.specs.Cluster.{adjustSpan, applyLengthAdjust};
+ghost use Rattle.clusters.specs.Clusters.{clustersOf, indexesIn};
+ghost use Rattle.lookup.specs.Rows.{spansIn};
+ghost use Rattle.sorting.specs.Sorted.{keyOf};
+ghost use Rattle.length_adjust.specs.Answer.{adjustedOf};
+
+// The clusters are adjusted, or the job is refused with this number.
+pub enum Adjusted {
+    Done,
+    Refused(u8),
+}
+
+// `keys` is the text order; what `marks` holds before and after is of no account.
+fn adjust_span(
+    span: Span,
+    keys: &[u32],
+    marks: &mut [u32],
+    floats: &mut [[f32; 10]],
+    words: &mut [[u32; 6]],
+) -> Adjusted
+    requires { ⌜ (length (now marks) ≤ length (now floats)) × (length (now marks) ≤ length (now words)) × (length (now marks) ≤ 65_536)
+        × (now keys ≡ map keyOf (logicalOrder (indexesIn (now words) (length (now marks))))) ⌝ }
+    ensures { λ r. ⌜ adjustedOf r (clustersOf (now (floats .exit)) (now (words .exit)) (length (now (marks .entry))))
+        ≡ adjustSpan (given (clustersOf (now (floats .entry)) (now (words .entry)) (length (now (marks .entry))))) span ⌝ }
+{
+    if span.fixed != 1 {
+        return Adjusted::Done;
+    }
+    mark_span(span, keys, marks);
+    if span.adjust == 0 {
+        adjust_spacing(span, floats, words, marks);
+        return Adjusted::Done;
+    }
+    adjust_glyphs(span, floats, words, marks)
+}
+
+fn adjust_spans(
+    s: &[u8],
+    spans: &[usize],
+    keys: &[u32],
+    marks: &mut [u32],
+    floats: &mut [[f32; 10]],
+    words: &mut [[u32; 6]],
+) -> Adjusted
+    requires { ⌜ (length (now marks) ≤ length (now floats)) × (length (now marks) ≤ length (now words)) × (length (now marks) ≤ 65_536)
+        × (now keys ≡ map keyOf (logicalOrder (indexesIn (now words) (length (now marks))))) ⌝ }
+    ensures { λ r. ⌜ adjustedOf r (clustersOf (now (floats .exit)) (now (words .exit)) (length (now (marks .entry))))
+        ≡ applyLengthAdjust (spansIn (now (s .entry)) (now (spans .entry))) (clustersOf (now (floats .entry)) (now (words .entry)) (length (now (marks .entry)))) ⌝ }
+{
+    let mut i: usize = 0;
+    while i < spans.len() {
+        let span = span_in(s, spans, i);
+        let adjusted = adjust_span(span, keys, marks, floats, words);
+        if let Adjusted::Refused(number) = adjusted {
+            return Adjusted::Refused(number);
+        }
+        i += 1;
+    }
+    Adjusted::Done
+}
+
+// Of `n` clusters. `order` has their keys in text order; what `taking` holds before and after is of no account.
+pub fn apply_length_adjust(
+    s: &[u8],
+    spans: &[usize],
+    order: &[u32],
+    taking: &mut [u32],
+    floats: &mut [[f32; 10]],
+    words: &mut [[u32; 6]],
+    n: usize,
+) -> Adjusted
+    requires { ⌜ (n ≤ length (now order)) × (n ≤ length (now taking)) × (n ≤ length (now floats)) × (n ≤ length (now words)) × (n ≤ 1_024)
+        × (take n (now order) ≡ map keyOf (logicalOrder (indexesIn (now words) n))) ⌝ }
+    ensures { λ r. ⌜ adjustedOf r (clustersOf (now (floats .exit)) (now (words .exit)) n)
+        ≡ applyLengthAdjust (spansIn (now (s .entry)) (now (spans .entry))) (clustersOf (now (floats .entry)) (now (words .entry)) n) ⌝ }
+{
+    adjust_spans(s, spans, &order[..n], &mut taking[..n], floats, words)
+}

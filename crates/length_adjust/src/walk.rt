@@ -1,0 +1,113 @@
+// Walks over the marked clusters, in the order of the list. There is a mark for each cluster.
+use clusters::cluster_at;
+use clusters::put_cluster;
+use clusters::put_floats;
+use labels::Cluster;
+ghost use mathlib.Core.Path.{_≡_};
+ghost use Prim.Native.Nat.{ℕ, _≤_};
+ghost use mathlib.Core.List.{foldl};
+ghost use lib.ListN.{length};
+ghost use Rattle.labels.specs.Lists.{all, modify, atOr};
+ghost use Rattle.labels.specs.Single.{+0, isZero};
+ghost use Rattle.labels.specs.ClusterParts.{withScale};
+ghost use Rattle.labels.specs.LengthAdjust.{stretchedBy};
+ghost use Rattle.labels.specs.Cluster.{rounded, widthOf};
+ghost use Rattle.clusters.specs.Clusters.{clustersOf};
+ghost use Rattle.length_adjust.specs.Marks.{marked};
+ghost use Rattle.length_adjust.specs.Sums.{widthsAt};
+
+// The sum of the widths, and how many clusters have them.
+pub struct Total {
+    pub sum: f32,
+    pub count: usize,
+}
+
+pub fn widths(floats: &[[f32; 10]], words: &[[u32; 6]], marks: &[u32]) -> Total
+    requires { ⌜ (length (now marks) ≤ length (now floats)) × (length (now marks) ≤ length (now words)) ⌝ }
+    ensures { λ r. ⌜ r ≡ widthsAt (clustersOf (now (floats .entry)) (now (words .entry)) (length (now (marks .entry)))) (marked (now (marks .entry))) ⌝ }
+{
+    let mut sum: f32 = 0.0;
+    let mut count: usize = 0;
+    let mut i: usize = 0;
+    while i < marks.len() {
+        if marks[i] == 1 {
+            let c = cluster_at(floats, words, i);
+            sum = sum + c.width;
+            count += 1;
+        }
+        i += 1;
+    }
+    Total {
+        sum: sum,
+        count: count,
+    }
+}
+
+// Whether each width is zero.
+pub fn all_zero(floats: &[[f32; 10]], words: &[[u32; 6]], marks: &[u32]) -> bool
+    requires { ⌜ (length (now marks) ≤ length (now floats)) × (length (now marks) ≤ length (now words)) ⌝ }
+    ensures { λ r. ⌜ r ≡ all (λ (k : ℕ). isZero (atOr +0 widthOf (clustersOf (now (floats .entry)) (now (words .entry)) (length (now (marks .entry)))) k))
+        (marked (now (marks .entry))) ⌝ }
+{
+    let mut i: usize = 0;
+    while i < marks.len() {
+        if marks[i] == 1 {
+            let c = cluster_at(floats, words, i);
+            if !(c.width == 0.0) {
+                return false;
+            }
+        }
+        i += 1;
+    }
+    true
+}
+
+fn stretched_by(c: Cluster, factor: f32) -> Cluster
+    ensures { λ r. ⌜ r ≡ stretchedBy rounded factor c ⌝ }
+{
+    let mut d = c;
+    d.advance = c.width + factor;
+    d.spacing = factor;
+    d
+}
+
+// The advance becomes the width and the factor, which is kept as length spacing.
+pub fn stretch(floats: &mut [[f32; 10]], words: &[[u32; 6]], marks: &[u32], factor: f32)
+    requires { ⌜ (length (now marks) ≤ length (now floats)) × (length (now marks) ≤ length (now words)) ⌝ }
+    ensures { λ _. ⌜ clustersOf (now (floats .exit)) (now (words .entry)) (length (now (marks .entry)))
+        ≡ foldl (modify (stretchedBy rounded factor)) (clustersOf (now (floats .entry)) (now (words .entry)) (length (now (marks .entry)))) (marked (now (marks .entry))) ⌝ }
+{
+    let mut i: usize = 0;
+    while i < marks.len() {
+        if marks[i] == 1 {
+            let c = cluster_at(floats, words, i);
+            put_floats(floats, i, stretched_by(c, factor));
+        }
+        i += 1;
+    }
+}
+
+fn with_scale(c: Cluster, factor: f32) -> Cluster
+    ensures { λ r. ⌜ r ≡ withScale factor c ⌝ }
+{
+    let mut d = c;
+    d.scale = factor;
+    d.scaled = true;
+    d
+}
+
+// Each cluster is scaled; its width and advance stay.
+pub fn scale(floats: &mut [[f32; 10]], words: &mut [[u32; 6]], marks: &[u32], factor: f32)
+    requires { ⌜ (length (now marks) ≤ length (now floats)) × (length (now marks) ≤ length (now words)) ⌝ }
+    ensures { λ _. ⌜ clustersOf (now (floats .exit)) (now (words .exit)) (length (now (marks .entry)))
+        ≡ foldl (modify (withScale factor)) (clustersOf (now (floats .entry)) (now (words .entry)) (length (now (marks .entry)))) (marked (now (marks .entry))) ⌝ }
+{
+    let mut i: usize = 0;
+    while i < marks.len() {
+        if marks[i] == 1 {
+            let c = cluster_at(floats, words, i);
+            put_cluster(floats, words, i, with_scale(c, factor));
+        }
+        i += 1;
+    }
+}

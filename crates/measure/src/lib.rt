@@ -1,0 +1,93 @@
+// Font units at a font size: the measures of the Rust's `ResolvedFont`, under its names.
+use labels::Font;
+ghost use mathlib.Core.Path.{_≡_};
+ghost use Prim.Native.Nat.{_≤_};
+ghost use lib.IntN.{pos, natAbs};
+ghost use Rattle.labels.specs.Single.{_/ᶠ_, ofNat};
+ghost use Rattle.labels.specs.Kind.{measure};
+ghost use Rattle.labels.specs.Cluster.{rounded};
+ghost use Rattle.labels.specs.Baseline.{ascentOf, descentOf, heightOf, xHeightOf};
+
+pub fn scale(font: Font, size: f32) -> f32
+    ensures { λ r. ⌜ r ≡ size /ᶠ ofNat (font .units) ⌝ }
+{
+    size / (font.units as f32)
+}
+
+// ---- `z` font units
+
+pub fn measure_i16(font: Font, size: f32, z: i16) -> f32
+    ensures { λ r. ⌜ r ≡ measure rounded font size z ⌝ }
+{
+    z as f32 * scale(font, size)
+}
+
+pub fn measure_u16(font: Font, size: f32, z: u16) -> f32
+    ensures { λ r. ⌜ r ≡ measure rounded font size (pos z) ⌝ }
+{
+    z as f32 * scale(font, size)
+}
+
+// For a glyph's width, which is within these bounds in a checked job: a cast is taken only of a whole number that is a float.
+pub fn measure_i32(font: Font, size: f32, z: i32) -> f32
+    requires { ⌜ natAbs z ≤ 65_535 ⌝ }
+    ensures { λ r. ⌜ r ≡ measure rounded font size z ⌝ }
+{
+    z as f32 * scale(font, size)
+}
+
+// ---- the measures of a font row
+
+pub fn ascent(font: Font, size: f32) -> f32
+    ensures { λ r. ⌜ r ≡ ascentOf font size ⌝ }
+{
+    measure_i16(font, size, font.ascent)
+}
+
+pub fn descent(font: Font, size: f32) -> f32
+    ensures { λ r. ⌜ r ≡ descentOf font size ⌝ }
+{
+    measure_i16(font, size, font.descent)
+}
+
+pub fn height(font: Font, size: f32) -> f32
+    ensures { λ r. ⌜ r ≡ heightOf font size ⌝ }
+{
+    ascent(font, size) - descent(font, size)
+}
+
+pub fn x_height(font: Font, size: f32) -> f32
+    ensures { λ r. ⌜ r ≡ xHeightOf font size ⌝ }
+{
+    measure_u16(font, size, font.xheight)
+}
+
+pub fn underline_position(font: Font, size: f32) -> f32
+    ensures { λ r. ⌜ r ≡ measure rounded font size (font .underline) ⌝ }
+{
+    measure_i16(font, size, font.underline)
+}
+
+pub fn underline_thickness(font: Font, size: f32) -> f32
+    ensures { λ r. ⌜ r ≡ measure rounded font size (pos (font .thickness)) ⌝ }
+{
+    measure_u16(font, size, font.thickness)
+}
+
+pub fn line_through_position(font: Font, size: f32) -> f32
+    ensures { λ r. ⌜ r ≡ measure rounded font size (font .through) ⌝ }
+{
+    measure_i16(font, size, font.through)
+}
+
+pub fn subscript_offset(font: Font, size: f32) -> f32
+    ensures { λ r. ⌜ r ≡ measure rounded font size (font .subscript) ⌝ }
+{
+    measure_i16(font, size, font.subscript)
+}
+
+pub fn superscript_offset(font: Font, size: f32) -> f32
+    ensures { λ r. ⌜ r ≡ measure rounded font size (font .superscript) ⌝ }
+{
+    measure_i16(font, size, font.superscript)
+}

@@ -1,0 +1,59 @@
+-- One turn of the search for a byte index, and its end; the glyph at a place of the list. Assumes nothing.
+use Prim.Native.Nat.{ℕ, zero, suc, _+_, _≤_, _<_}
+use mathlib.Core.Path.{_≡_, refl}
+use mathlib.Core.List.{List, [], _∷_, map}
+use native.Mathlib.Nat.{le-of-suc-le-suc, not-suc-le-zero}
+use native.Mathlib.Numerals.{add-one}
+use native.Mathlib.Omega.{arith}
+use lib.ListN.{length, take, drop, getD, length-take, drop-of-length-le}
+use lib.Seq.{drop-cons, getD-take}
+use borrow.Author.Tests.{eq-eqb, ne-eqb}
+use Rattle.labels.specs.Lists.{findIdx, atOr}
+use Rattle.labels.specs.declared.Glyph.{Glyph}
+use Rattle.labels.specs.Decode.{glyphOf}
+use Rattle.labels.specs.Merge.{placeOf, lengthAt}
+use Rattle.merge.specs.Merged.{glyphsIn}
+
+module _ (s rows : List ℕ) (n index : ℕ) where
+  abbrev glyphAt : ℕ → Glyph
+  glyphAt at = glyphOf (drop at s)
+
+  -- where the search ends that has passed i rows
+  abbrev pub placeFrom : ℕ → ℕ
+  placeFrom i = i + placeOf index (map glyphAt (drop i (take n rows)))
+
+  pub place-start : placeFrom 0 ≡ placeOf index (glyphsIn s rows n)
+  unfolding glyphsIn
+  place-start = omega arith
+
+  next-row : (i : ℕ) → i < n → n ≤ length rows → drop i (take n rows) ≡ getD rows i 0 ∷ drop (suc i) (take n rows)
+  next-row i h k =
+      let f : i < length (take n rows) = simp length-take (omega arith) in
+      rw (drop-cons (take n rows) i 0, getD-take n rows i 0)
+
+  pub place-here : (i : ℕ) → i < n → n ≤ length rows → glyphAt (getD rows i 0) .index ≡ index → placeFrom i ≡ i
+  unfolding findIdx
+  place-here i h k e = rw (next-row i h k, eq-eqb (glyphAt (getD rows i 0) .index) index e) (omega arith)
+
+  pub place-on : (i : ℕ) → i < n → n ≤ length rows → (glyphAt (getD rows i 0) .index ≡ index → ⊥) → placeFrom (i + 1) ≡ placeFrom i
+  unfolding findIdx
+  place-on i h k e =
+      rw (next-row i h k, ne-eqb (glyphAt (getD rows i 0) .index) index e, add-one i) (omega arith)
+
+  pub place-end : (i : ℕ) → n ≤ i → placeFrom i ≡ i
+  unfolding findIdx
+  place-end i h =
+      let f : length (take n rows) ≤ i = simp length-take (omega arith) in
+      rw (drop-of-length-le (take n rows) f) (omega arith)
+
+-- what f gives of the glyph at a place of the list
+at-map : {A B C : Type 0} (b : C) (f : B → C) (h : A → B) (d : A) (l : List A) (n p : ℕ) → p < n → n ≤ length l → atOr b f (map h (take n l)) p ≡ f (h (getD l p d))
+unfolding atOr
+at-map b f h d l zero p k m = absurd (not-suc-le-zero k)
+at-map b f h d [] (suc n) p k m = absurd (not-suc-le-zero m)
+at-map b f h d (x ∷ l) (suc n) zero k m = refl
+at-map b f h d (x ∷ l) (suc n) (suc p) k m = at-map b f h d l n p (le-of-suc-le-suc k) (le-of-suc-le-suc m)
+
+pub length-there : (s rows : List ℕ) (n p : ℕ) → p < n → n ≤ length rows → lengthAt (glyphsIn s rows n) p ≡ glyphOf (drop (getD rows p 0) s) .length
+unfolding glyphsIn
+length-there s rows n p h k = at-map 0 (λ (g : Glyph). g .length) (λ (at : ℕ). glyphOf (drop at s)) 0 rows n p h k

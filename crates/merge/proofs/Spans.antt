@@ -1,0 +1,88 @@
+-- A span's own glyphs and their merge; one turn and the end of the loop over a chunk's spans. Assumes nothing.
+use Prim.Native.Nat.{ℕ, _+_, _≤_, _<_}
+use mathlib.Core.Path.{_≡_, refl, sym, _∙_}
+use mathlib.Core.List.{List, [], _∷_, foldl}
+use native.Mathlib.Nat.{not-suc-le-zero}
+use native.Mathlib.Numerals.{add-one}
+use native.Mathlib.Omega.{arith}
+use lib.ListN.{length, getD, drop, drop-of-length-le}
+use lib.Seq.{drop-cons, drop-drop}
+use Rattle.labels.specs.Outcome.{Outcome, refused, given}
+use Rattle.labels.specs.Bytes.{rows as records}
+use Rattle.labels.specs.declared.Glyph.{Glyph}
+use Rattle.labels.specs.Job.{SpanParts, limits}
+use Rattle.labels.specs.Decode.{glyphOf, glyphBytes, glyphsAt, glyphCount, spanOf, partsOf}
+use Rattle.labels.specs.Merge.{merging, mergeGlyph, mergeDone, mergeSpan, mergeGlyphs}
+use Rattle.laws.proofs.All.{All, first, rest}
+use Rattle.laws.proofs.Records.{length-rows}
+use Rattle.lookup.specs.Rows.{partsIn}
+use Rattle.merge.specs.Merged.{glyphsIn, FewGlyphs}
+use Rattle.merge.proofs.Moved.{glyphs-count}
+
+-- a span stands at p, and `row` is what follows there; its glyph count stands k bytes on, and is n
+pub own-glyphs : (s row : List ℕ) (at p k n : ℕ) → row ≡ drop at s → drop p s ≡ drop at s → k ≡ glyphsAt row → n ≡ glyphCount row
+    → records (λ b. glyphBytes) glyphOf n (drop (p + k + 2) s) ≡ partsOf (drop at s) .glyphs
+unfolding partsOf
+own-glyphs s row at p k n row-is p-is k-is n-is =
+    let e : p + k + 2 ≡ p + (k + 2) = omega arith in
+    rw (e, ← drop-drop (k + 2) p s, p-is, n-is, k-is, row-is)
+
+-- a span's parts, and its n glyphs, which stand from `first` on; its merge into a list of `count` glyphs
+module _ (s : List ℕ) (parts : SpanParts) (first n : ℕ) (own : records (λ b. glyphBytes) glyphOf n (drop first s) ≡ parts .glyphs) where
+  pub own-few : FewGlyphs parts → n ≤ limits .glyphs
+  own-few h = rw (← own, length-rows) at h
+
+  module _ (rows : List ℕ) (count : ℕ) where
+    pub span-first : count ≡ 0 → mergeSpan (given (glyphsIn s rows count)) parts ≡ given (records (λ b. glyphBytes) glyphOf n (drop first s))
+    unfolding mergeSpan glyphsIn
+    span-first e = rw (e, own)
+
+    more : (gs : List Glyph) → 0 < length gs → mergeSpan (given gs) parts ≡ mergeDone (foldl (mergeGlyph (parts .span)) (merging gs [] 0 0) (parts .glyphs))
+    unfolding mergeSpan
+    more [] h = absurd (not-suc-le-zero h)
+    more (g ∷ gs) h = refl
+
+    pub span-more : 0 < count → count ≤ length rows
+        → mergeSpan (given (glyphsIn s rows count)) parts ≡ mergeDone (foldl (mergeGlyph (parts .span)) (merging (glyphsIn s rows count) [] 0 0) (records (λ b. glyphBytes) glyphOf n (drop first s)))
+    span-more h held = rw own (more (glyphsIn s rows count) (rw (glyphs-count s rows count held) h))
+
+pub own-span : (bs : List ℕ) → spanOf bs ≡ partsOf bs .span
+unfolding partsOf
+own-span bs = refl
+
+-- ---- the spans from place i on
+
+spans-refused : (k : ℕ) (ps : List SpanParts) → foldl mergeSpan (refused k) ps ≡ refused k
+unfolding mergeSpan
+spans-refused k [] = refl
+spans-refused k (p ∷ ps) = spans-refused k ps
+
+module _ (s spans : List ℕ) (i : ℕ) where
+  -- the spans left, merged into o, give `whole`
+  module _ (o whole : Outcome (List Glyph)) (left : foldl mergeSpan o (partsIn s (drop i spans)) ≡ whole) where
+    turn : i < length spans → foldl mergeSpan (mergeSpan o (partsOf (drop (getD spans i 0) s))) (partsIn s (drop (i + 1) spans)) ≡ whole
+    unfolding partsIn
+    turn h = rw add-one (rw (drop-cons spans i 0 h) at left)
+
+    pub spans-on : (next : Outcome (List Glyph)) → i < length spans → next ≡ mergeSpan o (partsOf (drop (getD spans i 0) s))
+        → foldl mergeSpan next (partsIn s (drop (i + 1) spans)) ≡ whole
+    spans-on next h e = rw e (turn h)
+
+    pub spans-stop : (k : ℕ) → i < length spans → refused k ≡ mergeSpan o (partsOf (drop (getD spans i 0) s)) → refused k ≡ whole
+    spans-stop k h e = sym (spans-refused k (partsIn s (drop (i + 1) spans))) ∙ spans-on (refused k) h e
+
+    pub spans-done : length spans ≤ i → o ≡ whole
+    unfolding partsIn
+    spans-done h = rw (drop-of-length-le spans h) at left
+
+  pub few-here : i < length spans → All FewGlyphs (partsIn s (drop i spans)) → FewGlyphs (partsOf (drop (getD spans i 0) s))
+  unfolding partsIn
+  few-here h few = first {P = FewGlyphs} (rw (drop-cons spans i 0 h) at few)
+
+  pub few-on : i < length spans → All FewGlyphs (partsIn s (drop i spans)) → All FewGlyphs (partsIn s (drop (i + 1) spans))
+  unfolding partsIn
+  few-on h few = rw add-one (rest (rw (drop-cons spans i 0 h) at few))
+
+pub spans-start : (s rows : List ℕ) (ps : List SpanParts) → foldl mergeSpan (given (glyphsIn s rows 0)) ps ≡ mergeGlyphs ps
+unfolding mergeGlyphs glyphsIn
+spans-start s rows ps = refl

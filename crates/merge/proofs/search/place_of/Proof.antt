@@ -1,0 +1,76 @@
+use borrow.Author.Needs.{needs}
+use native.Mathlib.Omega.{arith}
+use Prim.Native.Nat.{_≤_, _-_}
+use mathlib.Core.Path.{_≡_, sym, _∙_}
+use Rattle.labels.specs.Merge.{placeOf}
+use Rattle.merge.specs.Merged.{glyphsIn}
+use Rattle.merge.proofs.Found.{placeFrom, place-start, place-here, place-on, place-end}
+use Rattle.merge.proofs.search.place_of.Statement.{statement}
+use Rattle.merge.proofs.search.place_of.Tie as tie
+
+abbrev Inv-loop : tie.InvT-loop
+Inv-loop s rows count index i₀ i =
+    (i ≤ count) × (placeFrom s rows count index i ≡ placeOf index (glyphsIn s rows count))
+
+abbrev μ-loop : tie.MeasureT-loop
+μ-loop s rows count index i₀ i = count - i
+
+loop-holds : tie.Need-loop-holds Inv-loop μ-loop
+loop-holds c =
+    let a = c .before .before .args in
+    (omega arith, place-start (a .s .now) (a .rows .now) (a .count) (a .index))
+
+mul-index-at : tie.Need-mul-index-at Inv-loop μ-loop
+mul-index-at c = search needs
+
+shared-slice-read-index-at : tie.Need-shared-slice-read-index-at Inv-loop μ-loop
+shared-slice-read-index-at c = search needs
+
+index-at-requires : tie.Need-index-at-requires Inv-loop μ-loop
+index-at-requires c κs = search needs
+
+returns : tie.Need-returns Inv-loop μ-loop
+returns c =
+    let read = c .before in
+    let loop = read .before .before .before in
+    let a = loop .before .before .before .args in
+    let l = loop .loop in
+    sym (place-here (a .s .now) (a .rows .now) (a .count) (a .index) (l .i) (omega arith) (omega arith) (sym (read .index-at .ensures) ∙ c .if1 .taken)) ∙ l .inv .1
+
+add-i : tie.Need-add-i Inv-loop μ-loop
+add-i c = search needs
+
+loop-less : tie.Need-loop-less Inv-loop μ-loop
+loop-less c = search needs
+
+loop-again : tie.Need-loop-again Inv-loop μ-loop
+loop-again c =
+    let read = c .before in
+    let loop = read .before .before .before in
+    let a = loop .before .before .before .args in
+    let l = loop .loop in (
+      omega arith,
+      place-on (a .s .now) (a .rows .now) (a .count) (a .index) (l .i) (omega arith) (omega arith) (λ e. c .if1 .left (read .index-at .ensures ∙ e)) ∙ l .inv .1,
+    )
+
+returns-2 : tie.Need-returns-2 Inv-loop μ-loop
+returns-2 c =
+    let a = c .before .before .before .before .args in
+    let l = c .before .loop in
+    sym (place-end (a .s .now) (a .rows .now) (a .count) (a .index) (l .i) (omega arith)) ∙ l .inv .1
+
+pub place-of-spec : {M : Type 1} → statement M
+place-of-spec =
+    tie.close
+    (tie.spec
+    Inv-loop
+    μ-loop
+    loop-holds
+    mul-index-at
+    shared-slice-read-index-at
+    index-at-requires
+    returns
+    add-i
+    loop-less
+    loop-again
+    returns-2)

@@ -1,0 +1,4 @@
+pub mod TextOrder
+pub mod Shifting
+pub mod Marking
+pub mod Ends

@@ -1,0 +1,136 @@
+-- `position::marks::mark_relative_shifts` meets its contract. The loop's invariant: the byte indexes are what they were, and the
+-- clusters, once the rows from i on are marked, are those of the definition. Assumes nothing.
+use Prim.Native.Nat.{ℕ, _≤_, _<_, _-_}
+use native.Mathlib.Omega.{arith}
+use mathlib.Core.Path.{_≡_, refl, sym, ap, _∙_}
+use mathlib.Core.List.{List}
+use lib.ListN.{length, length-set}
+use borrow.Author.Needs.{needs}
+use Rattle.labels.specs.Job.{Job}
+use Rattle.labels.specs.Decode.{listOf}
+use Rattle.labels.specs.Cluster.{marked, markRelativeShifts}
+use Rattle.clusters.specs.Clusters.{Cluster, clustersOf, indexesIn}
+use Rattle.clusters.proofs.Turns.{stored, stage-turn, stage-done}
+use Rattle.position.specs.Given.{Numbered}
+use Rattle.position.proofs.Marking.{last, indexes-set, mark-start, angle-at}
+use Rattle.position.proofs.marks.mark_relative_shifts.Statement.{statement}
+use Rattle.position.proofs.marks.mark_relative_shifts.Tie as tie
+
+abbrev Inv-loop : tie.InvT-loop
+Inv-loop rotate numbers floats₀ words₀ n before₀ i₀ floats words before i =
+    (length floats ≡ length floats₀) × (length words ≡ length words₀) × (i ≤ n) × (indexesIn words n ≡ indexesIn words₀ n)
+    × ((job : Job) (text : List ℕ) (offset : ℕ) → job .rotate ≡ listOf rotate → Numbered text offset numbers words₀ n
+    → stored (last job text offset) (marked job text offset) before floats words n i ≡ markRelativeShifts job text offset (clustersOf floats₀ words₀ n))
+
+abbrev μ-loop : tie.MeasureT-loop
+μ-loop rotate numbers floats₀ words₀ n before₀ i₀ floats words before i = n - i
+
+cluster-at-requires : tie.Need-cluster-at-requires Inv-loop μ-loop
+cluster-at-requires c κs = search needs
+
+loop-holds : tie.Need-loop-holds Inv-loop μ-loop
+loop-holds c =
+    let a = c .before .before .before .before .before .args in (
+      refl,
+      refl,
+      omega arith,
+      refl,
+      λ job text offset er en. mark-start job text offset (a .floats .now) (a .words .now) (a .n) (c .cluster-at .result) (c .cluster-at .ensures) (omega arith) (omega arith) (omega arith),
+    )
+
+cluster-at-requires-2 : tie.Need-cluster-at-requires-2 Inv-loop μ-loop
+cluster-at-requires-2 c κs = search needs
+
+number-at-requires : tie.Need-number-at-requires Inv-loop μ-loop
+number-at-requires c κs = search needs
+
+float-in-requires : tie.Need-float-in-requires Inv-loop μ-loop
+float-in-requires c κs = search needs
+
+mark-requires : tie.Need-mark-requires Inv-loop μ-loop
+mark-requires c κs = search needs
+
+put-cluster-requires : tie.Need-put-cluster-requires Inv-loop μ-loop
+put-cluster-requires c κs =
+    let test = c .before .before .before .before .before .before .before .before in
+    let l = test .before .loop in
+    let start = test .before .before .before .before .before .before .before in
+    (omega (arith, test .loop-test .taken, l .inv .0, start .pre .1), omega (arith, test .loop-test .taken, l .inv .1, start .pre .2))
+
+add-i : tie.Need-add-i Inv-loop μ-loop
+add-i c =
+    let test = c .before .before .before .before .before .before .before .before .before .before .before in
+    omega (arith, test .loop-test .taken, test .before .before .before .before .before .before .before .fits .n .fits)
+
+loop-less : tie.Need-loop-less Inv-loop μ-loop
+loop-less c = search needs
+
+loop-again : tie.Need-loop-again Inv-loop μ-loop
+loop-again c =
+    let put = c .before .before in
+    let made = put .before in
+    let angle = made .before .before .before in
+    let number = angle .before in
+    let read = number .before in
+    let test = read .before .before .before in
+    let l = test .before .loop in
+    let start = test .before .before .before .before .before .before .before in
+    let a = start .args in
+    let at = read .cluster-at2 in
+    let h : l .i < a .n = test .loop-test .taken in
+    let p : a .n ≤ length (l .floats) = omega (arith, l .inv .0, start .pre .1) in
+    let q : a .n ≤ length (l .words) = omega (arith, l .inv .1, start .pre .2) in
+    let stored = put .put-cluster .ensures in
+    let index = ap (λ (c : Cluster). c .index) (at .ensures) in (
+      ap length (stored .0) ∙ length-set (l .floats) _ _ ∙ l .inv .0,
+      ap length (stored .1) ∙ length-set (l .words) _ _ ∙ l .inv .1,
+      omega (arith, h),
+      ap (λ (w : List (List ℕ)). indexesIn w (a .n)) (stored .1)
+          ∙ indexes-set (l .words) (a .n) (l .i) h q _ (made .mark .ensures .0 ∙ index)
+          ∙ l .inv .3,
+      λ job text offset er en.
+          stage-turn (last job text offset) (marked job text offset) (l .before) (at .result) (l .floats) (l .words) (a .n) (l .i) (at .result) (made .mark .result)
+          (at .ensures)
+          (made .mark .ensures .1 job text offset
+          (angle-at job text offset (listOf (a .rotate .now)) (a .numbers .now) (a .words .now) (l .words) (a .n) (l .i) (number .number-at .result) (angle .float-in .result) (at .result .index)
+          er en (l .inv .3) h q (number .number-at .ensures) (angle .float-in .ensures) index))
+          refl (stored .0) (stored .1) h p q
+          ∙ l .inv .4 job text offset er en,
+    )
+
+same-length : tie.Need-same-length Inv-loop μ-loop
+same-length c = search needs
+
+same-length-2 : tie.Need-same-length-2 Inv-loop μ-loop
+same-length-2 c = search needs
+
+returns : tie.Need-returns Inv-loop μ-loop
+returns c =
+    let l = c .before .loop in
+    let start = c .before .before .before .before .before .before .before in
+    let a = start .args in (
+      l .inv .3,
+      λ job text offset er en.
+          sym (stage-done (last job text offset) (marked job text offset) (l .before) (l .floats) (l .words) (a .n) (l .i) (c .loop-test .left) (omega arith) (omega arith))
+          ∙ l .inv .4 job text offset er en,
+    )
+
+pub mark-relative-shifts-spec : {M : Type 1} → statement M
+mark-relative-shifts-spec =
+    tie.close
+    (tie.spec
+    Inv-loop
+    μ-loop
+    cluster-at-requires
+    loop-holds
+    cluster-at-requires-2
+    number-at-requires
+    float-in-requires
+    mark-requires
+    put-cluster-requires
+    add-i
+    loop-less
+    loop-again
+    same-length
+    same-length-2
+    returns)

@@ -1,0 +1,34 @@
+-- What the stages of step 7 are given beside the clusters, and what they return. Definitions only.
+use Prim.Native.Nat.{ℕ, _≤_}
+use mathlib.Core.Path.{_≡_}
+use mathlib.Core.List.{List, map}
+use lib.ListN.{length, take}
+use lib.Ieee.{Float}
+use Rattle.labels.specs.declared.Cluster.{Cluster}
+use Rattle.labels.specs.Position as labels
+use Rattle.labels.specs.Position.{logicalOrder, characterNumber}
+use Rattle.clusters.specs.Clusters.{indexesIn}
+use Rattle.sorting.specs.Sorted.{keyOf}
+use Rattle.position.specs.declared.Extent.{Extent}
+use Rattle.position.specs.declared.Positioned.{Positioned}
+
+-- the first n keys are those of the n clusters in text order, and a place has room in a key
+pub record Ordered (order : List ℕ) (words : List (List ℕ)) (n : ℕ) : Type 0 where
+  pub rows : n ≤ length words
+  pub count : n ≤ length order
+  pub few : n ≤ 65536
+  pub keys : take n order ≡ map keyOf (logicalOrder (indexesIn words n))
+
+-- the first n numbers are those of the clusters' characters
+abbrev pub Numbered : List ℕ → ℕ → List ℕ → List (List ℕ) → ℕ → Type 0
+Numbered text offset numbers words n = take n numbers ≡ map (characterNumber text offset) (indexesIn words n)
+
+abbrev pub extentIn : Extent → labels.Extent Float
+extentIn e = record { left = e .left; right = e .right; advance = e .advance }
+
+-- the clusters and what is returned are those that the definition gives
+pub record Placed (p : labels.Positioned Float Cluster) (cs : List Cluster) (r : Positioned) : Type 0 where
+  pub clusters : cs ≡ p .clusters
+  pub extent : r .extent ≡ p .extent
+  pub endX : r .«end_x» ≡ p .endX
+  pub endY : r .«end_y» ≡ p .endY

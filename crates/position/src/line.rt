@@ -1,0 +1,103 @@
+// The clusters placed along the line.
+use crate::Positioned;
+use crate::marks::mark_relative_shifts;
+use crate::order::place_at;
+use crate::reach::extent_of;
+use crate::shifts::resolve_relative_shifts;
+use crate::shifts::turn_shifts;
+use crate::shifts::with_shift;
+use clusters::cluster_at;
+use clusters::put_floats;
+ghost use mathlib.Core.Path.{_≡_};
+ghost use mathlib.Core.List.{foldl};
+ghost use Prim.Native.Nat.{ℕ, _≤_, _<_};
+ghost use lib.ListN.{length};
+ghost use Rattle.labels.specs.Job.{Job, Chunk};
+ghost use Rattle.labels.specs.Decode.{listOf};
+ghost use Rattle.labels.specs.Position.{processAnchor, pastAdvance, placedFrom, positioned};
+ghost use Rattle.labels.specs.Cluster.{rounded};
+ghost use Rattle.labels.specs.Layout.{resolveClustersPositionsHorizontal};
+ghost use Rattle.clusters.specs.Clusters.{clustersOf};
+ghost use Rattle.position.specs.Given.{Ordered, Numbered, Placed};
+
+pub fn process_anchor(anchor: u8, width: f32) -> f32
+    ensures { λ r. ⌜ r ≡ processAnchor rounded anchor width ⌝ }
+{
+    if anchor == 0 {
+        return 0.0;
+    }
+    if anchor == 1 {
+        return -width / 2.0;
+    }
+    -width
+}
+
+// Each cluster at its shift and the advances before it, from `start` on. Where the last one ends is returned.
+pub fn place_from(start: f32, floats: &mut [[f32; 10]], words: &[[u32; 6]], n: usize) -> f32
+    requires { ⌜ (n ≤ length (now floats)) × (n ≤ length (now words)) ⌝ }
+    ensures { λ r. ⌜ (clustersOf (now (floats .exit)) (now (words .entry)) n ≡ placedFrom rounded start (clustersOf (now (floats .entry)) (now (words .entry)) n))
+        × (r ≡ foldl (pastAdvance rounded) start (clustersOf (now (floats .entry)) (now (words .entry)) n)) ⌝ }
+{
+    let mut x = start;
+    let mut i: usize = 0;
+    while i < n {
+        let c = cluster_at(floats, words, i);
+        put_floats(floats, i, with_shift(c, x + c.x, c.y));
+        x = x + c.advance;
+        i += 1;
+    }
+    x
+}
+
+// The clusters have their shifts. First and last are those in text order.
+pub fn positioned(
+    anchor: u8,
+    order: &[u32],
+    floats: &mut [[f32; 10]],
+    words: &[[u32; 6]],
+    n: usize,
+) -> Positioned
+    requires { ⌜ (0 < n) × (n ≤ length (now floats)) × Ordered (now order) (now words) n ⌝ }
+    ensures { λ r. ⌜ Placed (positioned rounded anchor (clustersOf (now (floats .entry)) (now (words .entry)) n))
+        (clustersOf (now (floats .exit)) (now (words .entry)) n) r ⌝ }
+{
+    let e = extent_of(floats, words, n);
+    let extent = e.right - e.left;
+    let first_place = place_at(order, 0);
+    let first = cluster_at(floats, words, first_place);
+    let end = n - 1;
+    let last_place = place_at(order, end);
+    let last = cluster_at(floats, words, last_place);
+    let start = first.x - e.left + process_anchor(anchor, extent);
+    let x = place_from(start, floats, words, n);
+    Positioned {
+        extent: extent,
+        end_x: x + last.x,
+        end_y: last.y,
+    }
+}
+
+// Of a chunk that has clusters. What is promised holds of every job and chunk that have these lists, this mode and anchor, and these numbers.
+pub fn resolve_clusters_positions_horizontal(
+    mode: u8,
+    anchor: u8,
+    dx: &[u8],
+    dy: &[u8],
+    rotate: &[u8],
+    order: &[u32],
+    numbers: &[u32],
+    floats: &mut [[f32; 10]],
+    words: &mut [[u32; 6]],
+    n: usize,
+) -> Positioned
+    requires { ⌜ (0 < n) × (n ≤ length (now floats)) × (n ≤ length (now numbers)) × Ordered (now order) (now words) n ⌝ }
+    ensures { λ r. ⌜ ((job : Job) (offset : ℕ) (chunk : Chunk) → job .mode ≡ mode → job .dx ≡ listOf (now (dx .entry)) → job .dy ≡ listOf (now (dy .entry))
+        → job .rotate ≡ listOf (now (rotate .entry)) → chunk .anchor ≡ anchor → Numbered (chunk .text) offset (now (numbers .entry)) (now (words .entry)) n
+        → Placed (resolveClustersPositionsHorizontal job offset chunk (clustersOf (now (floats .entry)) (now (words .entry)) n))
+        (clustersOf (now (floats .exit)) (now (words .exit)) n) r) ⌝ }
+{
+    resolve_relative_shifts(dx, dy, order, numbers, floats, words, n);
+    turn_shifts(mode, floats, words, n);
+    mark_relative_shifts(rotate, numbers, floats, words, n);
+    positioned(anchor, order, floats, words, n)
+}

@@ -1,0 +1,82 @@
+// The shifts that the clusters take from dx and dy.
+use crate::order::number_at;
+use crate::order::place_at;
+use clusters::cluster_at;
+use clusters::put_floats;
+use labels::Cluster;
+use lookup::float_in;
+ghost use mathlib.Core.Path.{_≡_};
+ghost use mathlib.Core.List.{List, map};
+ghost use Prim.Native.Nat.{ℕ, _≤_};
+ghost use lib.ListN.{length};
+ghost use Rattle.labels.specs.Job.{Job};
+ghost use Rattle.labels.specs.Decode.{listOf};
+ghost use Rattle.labels.specs.Position.{resolveRelativeShifts, turnShift, turnShifts};
+ghost use Rattle.labels.specs.Cluster.{rounded};
+ghost use Rattle.clusters.specs.Clusters.{clustersOf};
+ghost use Rattle.position.specs.Given.{Ordered, Numbered};
+
+pub fn with_shift(c: Cluster, x: f32, y: f32) -> Cluster
+    ensures { λ r. ⌜ r ≡ rounded .withShift x y c ⌝ }
+{
+    let mut d = c;
+    d.x = x;
+    d.y = y;
+    d
+}
+
+// `dx` and `dy` shift a character and all that follow it in text order.
+pub fn resolve_relative_shifts(
+    dx: &[u8],
+    dy: &[u8],
+    order: &[u32],
+    numbers: &[u32],
+    floats: &mut [[f32; 10]],
+    words: &[[u32; 6]],
+    n: usize,
+)
+    requires { ⌜ (n ≤ length (now floats)) × (n ≤ length (now numbers)) × Ordered (now order) (now words) n ⌝ }
+    ensures { λ _. ⌜ ((job : Job) (text : List ℕ) (offset : ℕ) → job .dx ≡ listOf (now (dx .entry)) → job .dy ≡ listOf (now (dy .entry))
+        → Numbered text offset (now (numbers .entry)) (now (words .entry)) n
+        → clustersOf (now (floats .exit)) (now (words .entry)) n ≡ resolveRelativeShifts rounded job text offset (clustersOf (now (floats .entry)) (now (words .entry)) n)) ⌝ }
+{
+    let mut x: f32 = 0.0;
+    let mut y: f32 = 0.0;
+    let mut i: usize = 0;
+    while i < n {
+        let place = place_at(order, i);
+        let number = number_at(numbers, place);
+        x = x + float_in(dx, number);
+        y = y + float_in(dy, number);
+        let c = cluster_at(floats, words, place);
+        put_floats(floats, place, with_shift(c, x, y));
+        i += 1;
+    }
+}
+
+// Top to bottom, the text is laid out left to right and turned by 90 degrees afterwards.
+fn turn_shift(c: Cluster) -> Cluster
+    ensures { λ r. ⌜ r ≡ turnShift rounded c ⌝ }
+{
+    with_shift(c, c.y, -c.x)
+}
+
+fn turn_all(floats: &mut [[f32; 10]], words: &[[u32; 6]], n: usize)
+    requires { ⌜ (n ≤ length (now floats)) × (n ≤ length (now words)) ⌝ }
+    ensures { λ _. ⌜ clustersOf (now (floats .exit)) (now (words .entry)) n ≡ map (turnShift rounded) (clustersOf (now (floats .entry)) (now (words .entry)) n) ⌝ }
+{
+    let mut i: usize = 0;
+    while i < n {
+        put_floats(floats, i, turn_shift(cluster_at(floats, words, i)));
+        i += 1;
+    }
+}
+
+pub fn turn_shifts(mode: u8, floats: &mut [[f32; 10]], words: &[[u32; 6]], n: usize)
+    requires { ⌜ (n ≤ length (now floats)) × (n ≤ length (now words)) ⌝ }
+    ensures { λ _. ⌜ clustersOf (now (floats .exit)) (now (words .entry)) n ≡ turnShifts rounded mode (clustersOf (now (floats .entry)) (now (words .entry)) n) ⌝ }
+{
+    if mode == 1 {
+        turn_all(floats, words, n);
+    }
+}

@@ -1,0 +1,4 @@
+pub mod Mapped
+pub mod Keeps
+pub mod Tests
+pub mod Characters

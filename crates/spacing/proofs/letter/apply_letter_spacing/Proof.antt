@@ -1,0 +1,120 @@
+-- `spacing::letter::apply_letter_spacing` meets its contract. The loop's invariant: the clusters that are done, and those still to be spaced,
+-- are what all will be when spaced. Assumes nothing.
+use Prim.Native.Nat.{ℕ, _+_, _-_, _≤_}
+use mathlib.Core.Path.{_≡_, refl, sym, ap, _∙_}
+use native.Mathlib.Omega.{arith}
+use lib.ListN.{length}
+use borrow.Author.Needs.{needs}
+use borrow.Author.Tests.{not-true, not-false}
+use Rattle.labels.specs.Lists.{scan}
+use Rattle.labels.specs.declared.Cluster.{Cluster}
+use Rattle.labels.specs.Cluster.{rounded}
+use Rattle.labels.specs.Spacing.{nextLetterSpaced, applyLetterSpacing}
+use Rattle.lookup.specs.Rows.{spansIn}
+use Rattle.clusters.specs.Clusters.{clustersOf}
+use Rattle.clusters.proofs.Rows.{clusters-length}
+use Rattle.clusters.proofs.Turns.{stored, stage-turn, stage-done}
+use Rattle.spacing.proofs.Tests.{cond-true, cond-false}
+use Rattle.spacing.proofs.letter.apply_letter_spacing.Statement.{statement}
+use Rattle.spacing.proofs.letter.apply_letter_spacing.Tie as tie
+
+abbrev less : ℕ → Cluster → ℕ
+less left c = left - 1
+
+abbrev Inv-loop : tie.InvT-loop
+Inv-loop s spans floats₀ words₀ n i₀ floats words i =
+    (length floats ≡ length floats₀) × (length words ≡ length words₀) × (i ≤ n)
+    × (stored less (nextLetterSpaced rounded (spansIn s spans)) (n - i) floats words n i
+    ≡ scan less (nextLetterSpaced rounded (spansIn s spans)) n (clustersOf floats₀ words₀ n))
+
+abbrev μ-loop : tie.MeasureT-loop
+μ-loop s spans floats₀ words₀ n i₀ floats words i = n - i
+
+any-spacing-requires : tie.Need-any-spacing-requires Inv-loop μ-loop
+any-spacing-requires c κs = search needs
+
+returns : tie.Need-returns Inv-loop μ-loop
+unfolding applyLetterSpacing
+returns c = sym (cond-false _ _ _ (c .before .any-spacing .ensures) (not-true _ (c .if1 .taken)))
+
+loop-holds : tie.Need-loop-holds Inv-loop μ-loop
+loop-holds c =
+    let a = c .before .before .before .before .args in
+    let e : a .n - 0 ≡ a .n = omega arith in
+    (refl, refl, omega arith, rw e)
+
+cluster-at-requires : tie.Need-cluster-at-requires Inv-loop μ-loop
+cluster-at-requires c κs = search needs
+
+sub-next-letter-spaced : tie.Need-sub-next-letter-spaced Inv-loop μ-loop
+sub-next-letter-spaced c = search needs
+
+next-letter-spaced-requires : tie.Need-next-letter-spaced-requires Inv-loop μ-loop
+next-letter-spaced-requires c κs = search needs
+
+put-cluster-requires : tie.Need-put-cluster-requires Inv-loop μ-loop
+put-cluster-requires c κs = search needs
+
+add-i : tie.Need-add-i Inv-loop μ-loop
+add-i c =
+    let loop = c .before .before .before .before .before .before .before .before .before .before in
+    omega (arith, loop .before .before .before .before .before .fits .n .fits)
+
+loop-less : tie.Need-loop-less Inv-loop μ-loop
+loop-less c = search needs
+
+loop-again : tie.Need-loop-again Inv-loop μ-loop
+loop-again c =
+    let kept = c .before .before in
+    let put = kept .put-cluster .ensures in
+    let made = kept .before .before .before in
+    let read = made .before in
+    let loop = read .before .before .before .before in
+    let start = loop .before .before .before .before .before in
+    let a = start .args in
+    let l = loop .loop in
+    let next = nextLetterSpaced rounded (spansIn (a .s .now) (a .spans .now)) in (
+      omega arith,
+      omega arith,
+      omega arith,
+      stage-turn less next (a .n - l .i) (a .n - (l .i + 1)) (l .floats) (l .words) (a .n) (l .i) (read .cluster-at .result) (made .next-letter-spaced .result)
+          (read .cluster-at .ensures) (made .next-letter-spaced .ensures) (omega arith) (put .0) (put .1) (omega arith) (omega (arith, start .pre .0)) (omega (arith, start .pre .1))
+          ∙ l .inv .3,
+    )
+
+same-length : tie.Need-same-length Inv-loop μ-loop
+same-length c = search needs
+
+same-length-2 : tie.Need-same-length-2 Inv-loop μ-loop
+same-length-2 c = search needs
+
+returns-2 : tie.Need-returns-2 Inv-loop μ-loop
+unfolding applyLetterSpacing
+returns-2 c =
+    let before = c .before .before .before in
+    let a = before .before .before .before .args in
+    let l = c .before .loop in
+    let next = nextLetterSpaced rounded (spansIn (a .s .now) (a .spans .now)) in
+    sym (stage-done less next (a .n - l .i) (l .floats) (l .words) (a .n) (l .i) (omega arith) (omega arith) (omega arith)) ∙ l .inv .3
+    ∙ ap (λ (k : ℕ). scan less next k (clustersOf (a .floats .now) (a .words .now) (a .n))) (sym (clusters-length (a .floats .now) (a .words .now) (a .n) (omega arith) (omega arith)))
+    ∙ sym (cond-true _ _ _ (before .any-spacing .ensures) (not-false _ (c .before .before .if1 .left)))
+
+pub apply-letter-spacing-spec : {M : Type 1} → statement M
+apply-letter-spacing-spec =
+    tie.close
+    (tie.spec
+    Inv-loop
+    μ-loop
+    any-spacing-requires
+    returns
+    loop-holds
+    cluster-at-requires
+    sub-next-letter-spaced
+    next-letter-spaced-requires
+    put-cluster-requires
+    add-i
+    loop-less
+    loop-again
+    same-length
+    same-length-2
+    returns-2)

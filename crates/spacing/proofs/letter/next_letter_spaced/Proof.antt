@@ -1,0 +1,53 @@
+-- `spacing::letter::next_letter_spaced` meets its contract. Assumes nothing.
+use mathlib.Core.Path.{_≡_, sym, ap, _∙_}
+use lib.Dec.{eqb}
+use lib.Ieee.{Float}
+use Rattle.labels.specs.Job.{spanAt}
+use Rattle.labels.specs.Script.{scriptSupportsLetterSpacing}
+use Rattle.labels.specs.Cluster.{rounded}
+use Rattle.labels.specs.Spacing.{letterSpaced, nextLetterSpaced}
+use Rattle.lookup.specs.Rows.{spansIn}
+use borrow.Author.Needs.{needs}
+use borrow.Author.Tests.{not-true, not-false}
+use Rattle.spacing.proofs.Tests.{cond-true, cond-false}
+use Rattle.spacing.proofs.letter.next_letter_spaced.Statement.{statement}
+use Rattle.spacing.proofs.letter.next_letter_spaced.Tie as tie
+
+spacing-in-requires : tie.Need-spacing-in-requires
+spacing-in-requires c κs = search needs
+
+script-supports-letter-spacing-requires : tie.Need-script-supports-letter-spacing-requires
+script-supports-letter-spacing-requires c κs = search needs
+
+returns : tie.Need-returns
+unfolding nextLetterSpaced
+returns c =
+    let script = c .before in
+    let a = script .before .before .before .before .args in
+    let test = script .script-supports-letter-spacing in
+    sym (cond-false (scriptSupportsLetterSpacing (a .c .tag)) _ _ (test .ensures) (not-true (test .result) (c .if1 .taken)))
+
+letter-spaced-requires : tie.Need-letter-spaced-requires
+letter-spaced-requires c κs = search needs
+
+returns-2 : tie.Need-returns-2
+unfolding nextLetterSpaced
+returns-2 c =
+    let script = c .before .before in
+    let read = script .before .spacing-in in
+    let a = script .before .before .before .before .args in
+    let test = script .script-supports-letter-spacing in
+    let spaced : c .letter-spaced .result ≡ letterSpaced rounded (read .result) (eqb (a .left) 1) (a .c) = c .letter-spaced .ensures in
+    let own : read .result ≡ spanAt (spansIn (a .s .now) (a .spans .now)) (a .c .span) .letter = read .ensures in
+    spaced ∙ ap (λ (letter : Float). letterSpaced rounded letter (eqb (a .left) 1) (a .c)) own
+    ∙ sym (cond-true (scriptSupportsLetterSpacing (a .c .tag)) _ _ (test .ensures) (not-false (test .result) (c .before .if1 .left)))
+
+pub next-letter-spaced-spec : {M : Type 1} → statement M
+next-letter-spaced-spec =
+    tie.close
+    (tie.spec
+    spacing-in-requires
+    script-supports-letter-spacing-requires
+    returns
+    letter-spaced-requires
+    returns-2)

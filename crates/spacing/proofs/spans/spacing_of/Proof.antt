@@ -1,0 +1,29 @@
+-- `spacing::spans::spacing_of` meets its contract. Assumes nothing.
+use Rattle.labels.specs.Decode.{spanOf}
+use borrow.Author.Needs.{needs}
+use Rattle.spacing.proofs.spans.spacing_of.Statement.{statement}
+use Rattle.spacing.proofs.spans.spacing_of.Tie as tie
+
+enum-told : tie.Need-enum-told
+enum-told c = search needs
+
+f32-at-requires : tie.Need-f32-at-requires
+f32-at-requires c κs = search needs
+
+enum-told-2 : tie.Need-enum-told-2
+enum-told-2 c = search needs
+
+f32-at-requires-2 : tie.Need-f32-at-requires-2
+f32-at-requires-2 c κs = search needs
+
+returns : tie.Need-returns
+unfolding spanOf
+returns c = rw (c .before .enum-told .given .1, c .f32-at .ensures)
+
+returns-2 : tie.Need-returns-2
+unfolding spanOf
+returns-2 c = rw (c .before .enum-told2 .given .1, c .f32-at2 .ensures)
+
+pub spacing-of-spec : {M : Type 1} → statement M
+spacing-of-spec =
+    tie.close (tie.spec enum-told f32-at-requires enum-told-2 f32-at-requires-2 returns returns-2)

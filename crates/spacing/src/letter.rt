@@ -1,0 +1,75 @@
+// Step 4: letter spacing.
+use crate::spans::Spacing;
+use crate::spans::any_spacing;
+use crate::spans::spaced;
+use crate::spans::spacing_in;
+use clusters::cluster_at;
+use clusters::put_cluster;
+use labels::Cluster;
+use labels::script_supports_letter_spacing;
+ghost use mathlib.Core.Path.{_≡_};
+ghost use Prim.Native.Nat.{_≤_};
+ghost use lib.ListN.{length};
+ghost use Rattle.labels.specs.Cluster.{rounded};
+ghost use Rattle.labels.specs.Spacing.{settled, letterSpaced, nextLetterSpaced, applyLetterSpacing};
+ghost use Rattle.lookup.specs.Rows.{spansIn};
+ghost use Rattle.clusters.specs.Clusters.{clustersOf};
+
+// A cluster whose advance is not above 0 loses its width, its advance and its glyphs.
+pub fn settled(c: Cluster) -> Cluster
+    ensures { λ r. ⌜ r ≡ settled rounded c ⌝ }
+{
+    if 0.0 < c.advance {
+        return c;
+    }
+    let mut d = c;
+    d.width = 0.0;
+    d.advance = 0.0;
+    d.count = 0;
+    d.collapsed = true;
+    d
+}
+
+// The cluster with its spacing, which the last one does not get.
+pub fn letter_spaced(letter: f32, last: bool, c: Cluster) -> Cluster
+    ensures { λ r. ⌜ r ≡ letterSpaced rounded letter last c ⌝ }
+{
+    if last {
+        return settled(c);
+    }
+    settled(spaced(c, letter))
+}
+
+// The next cluster, of which `left` are still to come, itself counted.
+fn next_letter_spaced(s: &[u8], spans: &[usize], left: usize, c: Cluster) -> Cluster
+    ensures { λ r. ⌜ r ≡ nextLetterSpaced rounded (spansIn (now (s .entry)) (now (spans .entry))) left c ⌝ }
+{
+    let letter = spacing_in(s, spans, c.span, Spacing::Letter);
+    if !script_supports_letter_spacing(c.tag) {
+        return c;
+    }
+    letter_spaced(letter, left == 1, c)
+}
+
+pub fn apply_letter_spacing(
+    s: &[u8],
+    spans: &[usize],
+    floats: &mut [[f32; 10]],
+    words: &mut [[u32; 6]],
+    n: usize,
+)
+    requires { ⌜ (n ≤ length (now floats)) × (n ≤ length (now words)) ⌝ }
+    ensures { λ _. ⌜ clustersOf (now (floats .exit)) (now (words .exit)) n
+        ≡ applyLetterSpacing rounded (spansIn (now (s .entry)) (now (spans .entry))) (clustersOf (now (floats .entry)) (now (words .entry)) n) ⌝ }
+{
+    if !any_spacing(s, spans, Spacing::Letter) {
+        return;
+    }
+    let mut i: usize = 0;
+    while i < n {
+        let c = cluster_at(floats, words, i);
+        let d = next_letter_spaced(s, spans, n - i, c);
+        put_cluster(floats, words, i, d);
+        i += 1;
+    }
+}
