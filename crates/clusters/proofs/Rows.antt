@@ -1,6 +1,5 @@
 -- The clusters of two lists of rows: how many, the one at a row, and a row stored anew. Assumes nothing.
-use Prim.Native.Nat.{ℕ, zero, suc, _+_, _*_, _/_, _%_, _≤_, _<_}
-use native.Mathlib.Nat.{le-of-suc-le-suc, not-suc-le-zero}
+use Prim.Native.Nat.{ℕ, _+_, _*_, _/_, _%_, _≤_, _<_}
 use native.Mathlib.Numerals.{add-one}
 use native.Mathlib.Omega.{arith}
 use mathlib.Core.Path.{_≡_, refl, ap, _∙_}
@@ -12,7 +11,7 @@ use borrow.Author.Tests.{eq-eqb, ne-eqb}
 use lib.Ieee.{Float}
 use Rattle.labels.specs.ClusterParts.{withLine, withHeight}
 use Rattle.clusters.proofs.Zips.{zip-length, zip-at, zip-right, zip-set, zip-set-left, zip-push}
-use Rattle.clusters.specs.Clusters.{Cluster, bitOf, odd, marksOf, clusterOf, floatsOf, wordsOf, clustersOf, indexesIn}
+use Rattle.clusters.specs.Clusters.{Cluster, bitOf, odd, clusterOf, floatsOf, wordsOf, clustersOf, indexesIn}
 
 -- ---- a row of a cluster holds that cluster
 

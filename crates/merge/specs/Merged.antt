@@ -1,12 +1,11 @@
 -- The merged list as the code holds it, and the answer to a chunk's merge. Definitions only.
 use Prim.Native.Nat.{ℕ, _≤_}
-use mathlib.Core.List.{List, map}
-use lib.ListN.{take, drop, length}
+use mathlib.Core.List.{List}
+use lib.ListN.{length}
 unfoldable pub use Rattle.lookup.specs.Rows.{glyphsIn}
 use Rattle.labels.specs.Outcome.{Outcome, refused, given}
 use Rattle.labels.specs.declared.Glyph.{Glyph}
 use Rattle.labels.specs.Job.{SpanParts, limits}
-use Rattle.labels.specs.Decode.{glyphOf}
 use Rattle.merge.specs.declared.Merge.{Merge}
 use Rattle.merge.specs.declared.Merge.the-variants as M
 

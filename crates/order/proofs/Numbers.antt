@@ -1,14 +1,18 @@
 -- Characters counted along the text order. Assumes nothing.
-use Prim.Native.Nat.{ℕ, zero, suc, _+_, _≤_, _<_}
+use Prim.Native.Nat.{ℕ, _+_, _≤_, _<_}
 use mathlib.Core.Path.{_≡_, refl, sym, ap, _∙_}
 use mathlib.Core.Bool.{Bool, true, false, cond}
-use mathlib.Core.List.{List, [], _∷_, _++_}
+use mathlib.Core.List.{List, [], _∷_, _++_, map}
 use native.Mathlib.Numerals.{add-one}
 use native.Mathlib.Omega.{arith}
-use lib.ListN.{length, getD, take, drop, length-take, length-drop, drop-of-length-le, take-append-drop}
+use lib.ListN.{length, getD, take, drop, length-take, drop-of-length-le, take-append-drop}
 use lib.Seq.{drop-cons, take-take}
 use Rattle.labels.specs.Utf8.{continues, characters, codePointAt}
-use Rattle.labels.specs.Position.{characterNumber}
+use Rattle.labels.specs.Position.{logicalOrder, characterNumber}
+use Rattle.clusters.specs.Clusters.{indexesIn}
+use Rattle.sorting.specs.Sorted.{keyOf}
+use Rattle.order.proofs.Keys.{indexes-length, indexes-at}
+use Rattle.order.proofs.Order.{placeIn, place-inside}
 
 -- ---- characters of a part
 
@@ -31,7 +35,7 @@ unfolding codePointAt characters
 none-before text = refl
 
 module _ (text : List ℕ) where
-  pub front-few : (end : ℕ) → codePointAt text end ≤ length text
+  front-few : (end : ℕ) → codePointAt text end ≤ length text
   unfolding codePointAt
   front-few end = omega (arith, characters-few (take end text), length-take end text)
 
@@ -41,10 +45,27 @@ module _ (text : List ℕ) where
       let e : take at (take end text) ≡ take at text = take-take at end text h in
       rw (← e) (sym (characters-append (take at (take end text)) (drop at (take end text))) ∙ ap characters (take-append-drop at (take end text)))
 
-  pub next-number : (offset at end number count : ℕ) → number ≡ characterNumber text offset at → at ≤ end → count ≡ characters (drop at (take end text))
+  next-number : (offset at end number count : ℕ) → number ≡ characterNumber text offset at → at ≤ end → count ≡ characters (drop at (take end text))
       → number + count ≡ characterNumber text offset end
   unfolding codePointAt
   next-number offset at end number count e h f = omega (arith, characters-to at end h)
+
+-- ---- the number of the next cluster in text order: the walk stands at byte `at` with its number
+module _ (text order : List ℕ) (words : List (List ℕ)) (n offset at k : ℕ) where
+  pub record Next (end next : ℕ) : Type 0 where
+    pub there : end ≡ getD (indexesIn words n) (placeIn order k) 0
+    pub number : next ≡ characterNumber text offset end
+    pub small : next ≤ offset + length text
+
+  pub walk-next : n ≤ 65536 → n ≤ length words → take n order ≡ map keyOf (logicalOrder (indexesIn words n)) → k < n
+      → (k < n → at ≤ getD (indexesIn words n) (placeIn order k) 0) → {end number count : ℕ} → end ≡ getD (getD words (placeIn order k) []) 0 0
+      → number ≡ characterNumber text offset at → count ≡ characters (drop at (take end text)) → Next end (number + count)
+  walk-next few room keys h up {end} {number} {count} e en ec =
+      let len = indexes-length words n room in
+      let inside = place-inside (indexesIn words n) order n few len keys k h in
+      let there : end ≡ getD (indexesIn words n) (placeIn order k) 0 = e ∙ sym (indexes-at words n room (placeIn order k) inside) in
+      let next = next-number text offset at end number count en (omega (arith, up h, there)) ec in
+      record { there = there; number = next; small = omega (arith, next, front-few text end) }
 
 -- ---- one turn of the count, and its end
 module _ (text : List ℕ) (i : ℕ) where

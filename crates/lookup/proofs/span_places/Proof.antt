@@ -7,9 +7,7 @@ use Prim.Native.Nat.{_-_, _≤_}
 use mathlib.Core.Path.{_≡_, refl, sym, _∙_}
 use lib.ListN.{length, take, drop, length-set}
 use Rattle.labels.specs.Bytes.{rows}
-use Rattle.labels.specs.Lists.{all}
 use Rattle.labels.specs.Decode.{spanSize, partsOf}
-use Rattle.lookup.specs.Rows.{partsIn}
 use Rattle.lookup.proofs.Rows.{found, found-start, found-turn, found-end, before, before-none, before-turn, before-end}
 
 abbrev Inv-loop : tie.InvT-loop

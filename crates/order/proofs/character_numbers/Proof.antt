@@ -1,15 +1,14 @@
 -- `order::character_numbers` meets its contract. Assumes nothing.
-use Prim.Native.Nat.{ℕ, suc, _+_, _-_, _≤_, _<_}
-use mathlib.Core.Path.{_≡_, refl, sym, ap, _∙_}
+use Prim.Native.Nat.{ℕ, _-_, _≤_, _<_}
+use mathlib.Core.Path.{_≡_, refl, ap, _∙_}
 use native.Mathlib.Nat.{not-suc-le-zero}
 use native.Mathlib.Omega.{arith}
-use lib.ListN.{length, getD, take, length-set}
-use Rattle.labels.specs.Utf8.{characters, codePointAt}
+use lib.ListN.{length, getD, length-set}
 use Rattle.labels.specs.Position.{characterNumber}
 use Rattle.clusters.specs.Clusters.{indexesIn}
-use Rattle.order.proofs.Keys.{indexes-length, indexes-at}
+use Rattle.order.proofs.Keys.{indexes-length}
 use Rattle.order.proofs.Order.{placeIn, place-inside, index-rises, written-turn, written-all}
-use Rattle.order.proofs.Numbers.{none-before, front-few, next-number}
+use Rattle.order.proofs.Numbers.{none-before, walk-next}
 use borrow.Author.Needs.{needs}
 use Rattle.order.proofs.character_numbers.Statement.{statement}
 use Rattle.order.proofs.character_numbers.Tie as tie
@@ -67,34 +66,20 @@ characters-between-requires c κs = search needs
 add-number : tie.Need-add-number Inv-loop μ-loop
 add-number c =
     let start = c .before .before .before .before .before .before .before .before .before in
-    let a = start .args in
     let l = c .before .before .before .before .before .loop in
-    let is = indexesIn (a .words .now) (a .n) in
-    let len = indexes-length (a .words .now) (a .n) (start .pre .2) in
-    let inside = place-inside is (a .order .now) (a .n) (start .pre .1) len (start .pre .5) (l .k) (omega arith) in
-    let here = indexes-at (a .words .now) (a .n) (start .pre .2) (placeIn (a .order .now) (l .k)) inside in
-    let end = c .before .wide in
-    let up : l .at ≤ end .result = omega (arith, l .inv .3 (omega arith), end .ensures) in
-    let next = next-number (a .text .now) (a .offset) (l .at) (end .result) (l .number) (c .characters-between .result) (l .inv .2) up (c .characters-between .ensures) in
-    let few = front-few (a .text .now) (end .result) in
+    let next = walk-next (start .args .text .now) (start .args .order .now) (start .args .words .now) (start .args .n) (start .args .offset) (l .at) (l .k)
+    (start .pre .1) (start .pre .2) (start .pre .5) (omega arith) (l .inv .3) (c .before .wide .ensures) (l .inv .2) (c .characters-between .ensures) in
     let room = start .pre .0 in
-    search needs
+    omega (arith, next .small, room)
 
 cast-numbers : tie.Need-cast-numbers Inv-loop μ-loop
 cast-numbers c =
     let start = c .before .before .before .before .before .before .before .before .before in
-    let a = start .args in
     let l = c .before .before .before .before .before .loop in
-    let is = indexesIn (a .words .now) (a .n) in
-    let len = indexes-length (a .words .now) (a .n) (start .pre .2) in
-    let inside = place-inside is (a .order .now) (a .n) (start .pre .1) len (start .pre .5) (l .k) (omega arith) in
-    let here = indexes-at (a .words .now) (a .n) (start .pre .2) (placeIn (a .order .now) (l .k)) inside in
-    let end = c .before .wide in
-    let up : l .at ≤ end .result = omega (arith, l .inv .3 (omega arith), end .ensures) in
-    let next = next-number (a .text .now) (a .offset) (l .at) (end .result) (l .number) (c .characters-between .result) (l .inv .2) up (c .characters-between .ensures) in
-    let few = front-few (a .text .now) (end .result) in
+    let next = walk-next (start .args .text .now) (start .args .order .now) (start .args .words .now) (start .args .n) (start .args .offset) (l .at) (l .k)
+    (start .pre .1) (start .pre .2) (start .pre .5) (omega arith) (l .inv .3) (c .before .wide .ensures) (l .inv .2) (c .characters-between .ensures) in
     let room = start .pre .0 in
-    search needs
+    omega (arith, next .small, room)
 
 mul-numbers : tie.Need-mul-numbers Inv-loop μ-loop
 mul-numbers c =
@@ -125,23 +110,19 @@ loop-less c = search needs
 loop-again : tie.Need-loop-again Inv-loop μ-loop
 loop-again c =
     let start = c .before .before .before .before .before .before .before .before .before in
-    let a = start .args in
     let l = c .before .before .before .before .before .loop in
+    let next = walk-next (start .args .text .now) (start .args .order .now) (start .args .words .now) (start .args .n) (start .args .offset) (l .at) (l .k)
+    (start .pre .1) (start .pre .2) (start .pre .5) (omega arith) (l .inv .3) (c .before .wide .ensures) (l .inv .2) (c .characters-between .ensures) in
+    let a = start .args in
     let is = indexesIn (a .words .now) (a .n) in
     let len = indexes-length (a .words .now) (a .n) (start .pre .2) in
-    let inside = place-inside is (a .order .now) (a .n) (start .pre .1) len (start .pre .5) (l .k) (omega arith) in
-    let here = indexes-at (a .words .now) (a .n) (start .pre .2) (placeIn (a .order .now) (l .k)) inside in
-    let end = c .before .wide in
-    let up : l .at ≤ end .result = omega (arith, l .inv .3 (omega arith), end .ensures) in
-    let next = next-number (a .text .now) (a .offset) (l .at) (end .result) (l .number) (c .characters-between .result) (l .inv .2) up (c .characters-between .ensures) in
-    let there : end .result ≡ getD is (placeIn (a .order .now) (l .k)) 0 = end .ensures ∙ sym here in
-    let keys = start .pre .5 in (
+    let rises = index-rises is (a .order .now) (a .n) (start .pre .1) len (start .pre .5) (l .k) in (
       simp length-set (l .inv .0),
       omega arith,
-      next,
-      λ h. omega (arith, there, index-rises is (a .order .now) (a .n) (start .pre .1) len keys (l .k) (omega arith)),
-      written-turn is (a .order .now) (a .n) (start .pre .1) len keys (characterNumber (a .text .now) (a .offset)) (l .numbers) (l .k) _ (omega arith) (omega arith)
-          (next ∙ ap (characterNumber (a .text .now) (a .offset)) there) (l .inv .4),
+      next .number,
+      λ h. omega (arith, next .there, rises h),
+      written-turn is (a .order .now) (a .n) (start .pre .1) len (start .pre .5) (characterNumber (a .text .now) (a .offset)) (l .numbers) (l .k) _ (omega arith) (omega arith)
+          (next .number ∙ ap (characterNumber (a .text .now) (a .offset)) (next .there)) (l .inv .4),
     )
 
 same-length : tie.Need-same-length Inv-loop μ-loop
