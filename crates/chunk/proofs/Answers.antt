@@ -17,12 +17,12 @@ use Rattle.length_adjust.specs.declared.Adjusted.{Adjusted}
 use Rattle.length_adjust.specs.declared.Adjusted.the-variants as A
 use Rattle.length_adjust.specs.Answer as length
 use Rattle.chunk.specs.declared.Formed.the-variants as F
-use Rattle.chunk.specs.Steps.{collapsedOf, adjustedOf, formedOf}
+use Rattle.chunk.specs.Steps.{collapsedFrom, adjustedFrom, formedOf}
 
 -- steps 5 and 6 of clusters as step 4 leaves them
 pub steps : (mode : ℕ) (fonts : List Font) (text : List ℕ) (spans : List Span) (gs : List Glyph) {cs ds : List Cluster}
-    → ds ≡ applyWordSpacing rounded text spans cs → cs ≡ collapsedOf mode fonts spans gs → applyLengthAdjust spans ds ≡ adjustedOf mode fonts text spans gs
-unfolding adjustedOf
+    → ds ≡ applyWordSpacing rounded text spans cs → cs ≡ collapsedFrom mode fonts spans gs → applyLengthAdjust spans ds ≡ adjustedFrom mode fonts text spans gs
+unfolding adjustedFrom
 steps mode fonts text spans gs e f = rw (e, f)
 
 module _ (r : Adjusted) (rows : ℕ → List Cluster) (n : ℕ) (out : Outcome (List Cluster)) (is : length.adjustedOf r (rows n) ≡ out) where

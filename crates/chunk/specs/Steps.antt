@@ -1,4 +1,5 @@
--- Steps 2 to 6 of what they read: the writing mode, the fonts, the text, the spans and the merged glyphs. Definitions only.
+-- Steps 2 to 6 from what they read: the writing mode, the fonts, the text, the spans and the merged glyphs. A job's and a chunk's are
+-- `collapsedClusters` and `adjustedClusters` of the definitions (proofs/Definitions). Definitions only.
 use Prim.Native.Nat.{ℕ, _≤_}
 use mathlib.Core.Path.{_≡_}
 use lib.ListN.{take}
@@ -17,12 +18,12 @@ use Rattle.sorting.specs.Sorted.{keyOf}
 use Rattle.chunk.specs.declared.Formed.{Formed}
 use Rattle.chunk.specs.declared.Formed.the-variants as F
 
-unfoldable pub collapsedOf : ℕ → List Font → List Span → List Glyph → List Cluster
-collapsedOf mode fonts spans gs =
+unfoldable pub collapsedFrom : ℕ → List Font → List Span → List Glyph → List Cluster
+collapsedFrom mode fonts spans gs =
     applyLetterSpacing rounded spans (applyWritingMode mode (map (formGlyphClusters fonts spans) (groups spans gs)))
 
-unfoldable pub adjustedOf : ℕ → List Font → List ℕ → List Span → List Glyph → Outcome (List Cluster)
-adjustedOf mode fonts text spans gs = applyLengthAdjust spans (applyWordSpacing rounded text spans (collapsedOf mode fonts spans gs))
+unfoldable pub adjustedFrom : ℕ → List Font → List ℕ → List Span → List Glyph → Outcome (List Cluster)
+adjustedFrom mode fonts text spans gs = applyLengthAdjust spans (applyWordSpacing rounded text spans (collapsedFrom mode fonts spans gs))
 
 -- the answer to a chunk's steps 2 to 6, with the clusters that the first n rows hold
 unfoldable pub formedOf : Formed → (ℕ → List Cluster) → Outcome (List Cluster)

@@ -19,7 +19,7 @@ ghost use Rattle.lookup.specs.Rows.{fontsIn, spansIn, glyphsIn};
 ghost use Rattle.clusters.specs.Clusters.{clustersOf, indexesIn};
 ghost use Rattle.sorting.specs.Sorted.{keyOf};
 ghost use Rattle.forming.specs.Groups.{widthsOk};
-ghost use Rattle.chunk.specs.Steps.{collapsedOf, adjustedOf, formedOf, Ready};
+ghost use Rattle.chunk.specs.Steps.{collapsedFrom, adjustedFrom, formedOf, Ready};
 
 // How many clusters there are, or the number that the job is refused with.
 pub enum Formed {
@@ -60,7 +60,7 @@ fn collapsed_clusters(
     requires { ⌜ (count ≤ length (now rows)) × (count ≤ length (now floats)) × (count ≤ length (now words)) × (count ≤ length (now order))
         × (count ≤ length (now spare)) × (count ≤ 1_024) × (length (now spans) < 256) × (widthsOk (glyphsIn (now s) (now rows) count) ≡ true) ⌝ }
     ensures { λ r. ⌜ (clustersOf (now (floats .exit)) (now (words .exit)) r
-        ≡ collapsedOf (job .mode) (fontsIn (now (s .entry)) (job .fonts)) (spansIn (now (s .entry)) (now (spans .entry))) (glyphsIn (now (s .entry)) (now (rows .entry)) count))
+        ≡ collapsedFrom (job .mode) (fontsIn (now (s .entry)) (job .fonts)) (spansIn (now (s .entry)) (now (spans .entry))) (glyphsIn (now (s .entry)) (now (rows .entry)) count))
         × (r ≤ count)
         × (take r (now (order .exit)) ≡ map keyOf (logicalOrder (indexesIn (now (words .exit)) r))) ⌝ }
 {
@@ -86,7 +86,7 @@ pub fn adjusted_clusters(
     requires { ⌜ (count ≤ length (now rows)) × (count ≤ length (now floats)) × (count ≤ length (now words)) × (count ≤ length (now order))
         × (count ≤ length (now spare)) × (count ≤ 1_024) × (length (now spans) < 256) × (widthsOk (glyphsIn (now s) (now rows) count) ≡ true) ⌝ }
     ensures { λ r. ⌜ (formedOf r (clustersOf (now (floats .exit)) (now (words .exit)))
-        ≡ adjustedOf (job .mode) (fontsIn (now (s .entry)) (job .fonts)) (now (text .entry)) (spansIn (now (s .entry)) (now (spans .entry)))
+        ≡ adjustedFrom (job .mode) (fontsIn (now (s .entry)) (job .fonts)) (now (text .entry)) (spansIn (now (s .entry)) (now (spans .entry)))
         (glyphsIn (now (s .entry)) (now (rows .entry)) count))
         × Ready r count (now (order .exit)) (now (words .exit)) ⌝ }
 {

@@ -14,6 +14,14 @@ use Rattle.sorting.specs.Sorted.{keyOf}
 use Rattle.order.proofs.Keys.{indexes-length, indexes-at}
 use Rattle.order.proofs.Order.{placeIn, place-inside}
 
+-- ---- a byte that continues a character starts none, and any other starts one
+
+pub starts-none : (b : ℕ) → continues b ≡ true → _≡_ {A = ℕ} 0 (cond (continues b) 0 1)
+starts-none b e = rw e
+
+pub starts-one : (b : ℕ) → continues b ≡ false → _≡_ {A = ℕ} 1 (cond (continues b) 0 1)
+starts-one b e = rw e
+
 -- ---- characters of a part
 
 pub characters-append : (a b : List ℕ) → characters (a ++ b) ≡ characters a + characters b

@@ -1,5 +1,5 @@
 -- `chunk::collapsed_clusters` meets its contract. Assumes nothing.
-use Rattle.chunk.specs.Steps.{collapsedOf}
+use Rattle.chunk.specs.Steps.{collapsedFrom}
 use borrow.Author.Needs.{needs}
 use Rattle.chunk.proofs.collapsed_clusters.Statement.{statement}
 use Rattle.chunk.proofs.collapsed_clusters.Tie as tie
@@ -26,7 +26,7 @@ same-length-4 : tie.Need-same-length-4
 same-length-4 c = search needs
 
 returns : tie.Need-returns
-unfolding collapsedOf
+unfolding collapsedFrom
 returns c =
     let spaced = c .before .before .spaced-clusters in
     let ordered = c .before .before .before .before .before .before .before .before .before .logical-order in
