@@ -1,13 +1,14 @@
-//! A seeded run of cases, each with the outcome that the Rust gives.
+//! Seeded runs of cases, each with the outcome that the Rust gives.
 
-use crate::bytes::hex;
-use crate::call::call;
+use oracle::bytes::hex;
+use oracle::call::call;
+use oracle::job::{Chunk, Glyph, Job, Span};
+use oracle::refusal::Refusal;
+
 use crate::damage::damaged;
 use crate::encode::encode;
-use crate::generate;
-use crate::job::{Chunk, Glyph, Job, Span};
 use crate::random::Random;
-use crate::refusal::Refusal;
+use crate::{generate, labels, limits};
 
 pub struct Case {
     pub job: Vec<u8>,
@@ -17,24 +18,64 @@ pub struct Case {
 
 const LARGE: usize = 65_536;
 
-pub fn cases(seed: u64, count: usize) -> impl Iterator<Item = Case> {
+/// Small ones, which the prover can compute.
+pub fn small(seed: u64, count: usize) -> impl Iterator<Item = Case> {
     let mut random = Random::new(seed);
-    (0..count).map(move |_| case(&mut random))
+    (0..count).map(move |_| {
+        let job = small_job(&mut random);
+        case(job, &mut random)
+    })
 }
 
-fn case(random: &mut Random) -> Case {
-    let job = match random.below(200) {
+/// Of every kind and size.
+pub fn all(seed: u64, count: usize) -> impl Iterator<Item = Case> {
+    let mut random = Random::new(seed);
+    (0..count).map(move |_| {
+        let job = any_job(&mut random);
+        case(job, &mut random)
+    })
+}
+
+fn small_job(random: &mut Random) -> Vec<u8> {
+    match random.below(200) {
         0..=2 => encode(&crowded(random)),
         3..=70 => damaged(generate::job(random), random),
         _ => encode(&generate::job(random)),
+    }
+}
+
+fn any_job(random: &mut Random) -> Vec<u8> {
+    match random.below(1_000) {
+        0..=5 => encode(&limits::large(random)),
+        6..=15 => encode(&limits::at_a_limit(random)),
+        16..=399 => encode(&labels::job(random)),
+        400..=499 => damaged(labels::job(random), random),
+        _ => small_job(random),
+    }
+}
+
+/// A job with a large buffer lent.
+pub fn of_job(job: Vec<u8>) -> Case {
+    Case {
+        outcome: call(&job, LARGE),
+        lent: LARGE,
+        job,
+    }
+}
+
+fn case(job: Vec<u8>, random: &mut Random) -> Case {
+    let outcome = call(&job, usize::MAX);
+    let whole = parts(&outcome).1.len();
+    let lent = lent_length(whole, random);
+    let outcome = if whole > lent {
+        call(&job, lent)
+    } else {
+        outcome
     };
-    let lent = lent_length(&job, random);
-    let outcome = call(&job, lent);
     Case { job, lent, outcome }
 }
 
-fn lent_length(job: &[u8], random: &mut Random) -> usize {
-    let whole = call(job, usize::MAX).map_or(0, |answer| answer.len());
+fn lent_length(whole: usize, random: &mut Random) -> usize {
     match random.below(8) {
         0 => whole,
         1 => whole.saturating_sub(1),

@@ -1,7 +1,8 @@
 //! Copies of a job with one thing changed: a field to an edge or one past it, a count, or its bytes.
 
+use oracle::job::{Chunk, Glyph, Job, Pattern, Shift, Span, NO_FONT};
+
 use crate::encode::encode;
-use crate::job::{Chunk, Glyph, Job, Pattern, Shift, Span, NO_FONT};
 use crate::random::Random;
 
 const FLOAT_EDGES: &[Pattern] = &[
@@ -237,7 +238,7 @@ fn change_long_count(job: &mut Job, past: usize, random: &mut Random) {
 }
 
 /// Copies of the last row up to a count; an empty list stays empty.
-fn fill<T: Clone>(rows: &mut Vec<T>, count: usize) {
+pub fn fill<T: Clone>(rows: &mut Vec<T>, count: usize) {
     if let Some(last) = rows.last().cloned() {
         rows.resize(count, last);
     }

@@ -1,7 +1,7 @@
 //! From a job's fields to its bytes. Fields are written as they are, legal or not.
 
-use crate::bytes::Writer;
-use crate::job::{Chunk, FontRow, Glyph, Job, Pattern, Span};
+use oracle::bytes::Writer;
+use oracle::job::{Chunk, FontRow, Glyph, Job, Pattern, Span};
 
 pub fn encode(job: &Job) -> Vec<u8> {
     let mut to = Writer::default();

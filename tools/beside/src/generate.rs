@@ -1,7 +1,9 @@
 //! Small legal jobs that reach much.
 
-use crate::job::{Chunk, FontRow, Glyph, Job, Pattern, Shift, Span, NO_FONT, NUMBER};
+use oracle::job::{Chunk, FontRow, Glyph, Job, Pattern, Shift, Span, NO_FONT, NUMBER};
+
 use crate::random::Random;
+use crate::tables::{LISTED, WORD_SEPARATORS};
 
 pub fn job(random: &mut Random) -> Job {
     let mut maker = if random.one_in(4) {
@@ -44,15 +46,6 @@ enum Widths {
     Any,
 }
 
-const WORD_SEPARATORS: &[char] = &[
-    ' ',
-    '\u{a0}',
-    '\u{1361}',
-    '\u{10100}',
-    '\u{10101}',
-    '\u{1039f}',
-    '\u{1091f}',
-];
 /// One to four bytes of UTF-8, the first and last character of each length among them.
 const LETTERS: &[char] = &[
     'A',
@@ -72,10 +65,6 @@ const LETTERS: &[char] = &[
     '\u{10000}',
     '😀',
     '\u{10ffff}',
-];
-const LISTED: &[&[u8; 4]] = &[
-    b"Arab", b"Syrc", b"Nkoo", b"Mani", b"Phlp", b"Mand", b"Mong", b"Phag", b"Deva", b"Beng",
-    b"Guru", b"Modi", b"Shrd", b"Sylo", b"Tirh", b"Ogam",
 ];
 const UNLISTED: &[&[u8; 4]] = &[
     b"Latn",
@@ -98,8 +87,8 @@ const WIDTHS: &[Widths] = &[
 ];
 
 /// What a job is made of. A count is picked from its list.
-struct Maker<'a> {
-    random: &'a mut Random,
+pub struct Maker<'a> {
+    pub random: &'a mut Random,
     fonts: usize,
     chunks: usize,
     characters: &'static [usize],
@@ -117,7 +106,7 @@ struct Maker<'a> {
 }
 
 impl<'a> Maker<'a> {
-    fn of_all(random: &'a mut Random) -> Self {
+    pub fn of_all(random: &'a mut Random) -> Self {
         let no_fonts = random.one_in(20);
         let no_chunks = random.one_in(30);
         Maker {
@@ -171,7 +160,7 @@ impl<'a> Maker<'a> {
         }
     }
 
-    fn float(&mut self) -> Pattern {
+    pub fn float(&mut self) -> Pattern {
         let usual = [
             0.0, 0.5, 1.0, 1.0, 2.0, 3.0, 10.0, 0.1, 0.3, 7.7, 100.0, 1000.0,
         ];
@@ -207,7 +196,7 @@ impl<'a> Maker<'a> {
         }
     }
 
-    fn list(&mut self) -> Vec<Pattern> {
+    pub fn list(&mut self) -> Vec<Pattern> {
         let count = self.random.pick(&[0, 0, 0, 1, 2, 4, 9]);
         let mut item = || {
             if self.random.one_in(2) {
@@ -235,7 +224,7 @@ impl<'a> Maker<'a> {
         }
     }
 
-    fn font(&mut self) -> FontRow {
+    pub fn font(&mut self) -> FontRow {
         let units = self.random.pick(&[2048, 1000, 2048, 300]);
         FontRow {
             units_per_em: self.unsigned(units),
@@ -321,6 +310,14 @@ impl<'a> Maker<'a> {
     fn span(&mut self, text: &str, start: usize, end: usize) -> Span {
         let bare = self.fonts == 0 || self.random.one_in(self.bare);
         let font = if bare { NO_FONT } else { self.font_byte() };
+        let mut span = self.span_without_glyphs(start, end, font);
+        if !bare {
+            span.glyphs = self.glyphs(text, font);
+        }
+        span
+    }
+
+    pub fn span_without_glyphs(&mut self, start: usize, end: usize, font: u8) -> Span {
         let length_flag = self.random.pick(&[0, 0, 1]);
         let shifts = self.random.pick(&[0, 0, 1, 1, 2, 3, 8]);
         Span {
@@ -343,11 +340,7 @@ impl<'a> Maker<'a> {
                 .pick(&[0, 1, 2, 3, 4, 5, 6, 7, 8, 9, 10, 11, 0, 1, 0, 1]),
             decorations: self.random.below(8) as u8,
             shifts: (0..shifts).map(|_| self.shift()).collect(),
-            glyphs: if bare {
-                vec![]
-            } else {
-                self.glyphs(text, font)
-            },
+            glyphs: vec![],
         }
     }
 
@@ -434,7 +427,7 @@ impl<'a> Maker<'a> {
         }
     }
 
-    fn offset(&mut self) -> i32 {
+    pub fn offset(&mut self) -> i32 {
         match self.random.below(8) {
             0 => self.random.pick(&[65_535, -65_535, 1, -1]),
             1 => self.random.between(-65_535, 65_535) as i32,
@@ -453,6 +446,6 @@ impl<'a> Maker<'a> {
 }
 
 /// The first byte from `at` on where a character starts or the text ends.
-fn boundary(text: &str, at: usize) -> usize {
+pub fn boundary(text: &str, at: usize) -> usize {
     (at..).find(|&i| text.is_char_boundary(i)).unwrap()
 }

@@ -1,63 +1,96 @@
-//! The Rust's own layout as an oracle for the definitions. README.md says how to use it.
+//! The library and the definitions beside the Rust's own layout. README.md says how to use it.
 
-mod answer;
-mod bytes;
-mod call;
 mod cases;
-mod check;
+mod compare;
 mod damage;
-mod decode;
 mod encode;
+mod exact;
+mod fields;
 mod generate;
-mod job;
-#[cfg(test)]
-mod label;
+mod labels;
+mod library;
+mod limits;
+mod near;
 mod random;
-mod refusal;
-mod rust;
+mod reach;
+mod shown;
+mod store;
+mod tables;
+mod tell;
+mod whole;
 
 use std::error::Error;
 use std::io::Write;
 use std::path::Path;
 use std::{env, fs};
 
-const USAGE: &str = "beside answer FILE LENT | beside gen SEED COUNT DIR | beside reach SEED COUNT";
+use cases::Case;
+use compare::{Lender, Tally};
 
-fn main() -> Result<(), Box<dyn Error>> {
+const USAGE: &str = "\
+beside run SEED COUNT       the library beside the Rust, on jobs of every kind
+beside reach SEED COUNT     what these jobs show, and which branches of the Rust's text they take
+beside readings SEED COUNT  after how many of them each wrong reading is told apart
+beside near SEED COUNT      how far answers are from the exact layout, as a share of demand 3's bound
+beside store COUNT DIR      jobs for crates/replay, chosen for what they show, with the Rust's answers
+beside replay DIR           the library beside the answers of such jobs
+beside answer FILE LENT     a job's number and answer, in hex
+beside gen SEED COUNT DIR   small cases for `evaluate`
+";
+
+type Done = Result<(), Box<dyn Error>>;
+
+fn main() -> Done {
     let words: Vec<String> = env::args().skip(1).collect();
     let words: Vec<&str> = words.iter().map(String::as_str).collect();
     match words[..] {
+        ["run", seed, count] => run(cases::all(seed.parse()?, count.parse()?)),
+        ["reach", seed, count] => reach::print(seed.parse()?, count.parse()?),
+        ["readings", seed, count] => tell::print(seed.parse()?, count.parse()?),
+        ["near", seed, count] => near::print(seed.parse()?, count.parse()?),
+        ["store", count, dir] => store::write(count.parse()?, Path::new(dir)),
+        ["replay", dir] => replay(Path::new(dir)),
         ["answer", file, lent] => answer_file(file, lent.parse()?),
         ["gen", seed, count, dir] => write_cases(seed.parse()?, count.parse()?, Path::new(dir)),
-        ["reach", seed, count] => print_reach(seed.parse()?, count.parse()?),
         _ => Err(USAGE.into()),
     }
 }
 
-fn answer_file(file: &str, lent: usize) -> Result<(), Box<dyn Error>> {
-    let outcome = call::call(&fs::read(file)?, lent);
+/// The library beside the outcomes that the Rust gave.
+fn run(cases: impl Iterator<Item = Case>) -> Done {
+    let mut lender = Lender::new();
+    let mut tally = Tally::default();
+    for case in cases {
+        let difference = lender.difference(&case);
+        tally.add(&case, difference);
+    }
+    tally.print();
+    Ok(tally.verdict()?)
+}
+
+fn replay(dir: &Path) -> Done {
+    let files = fs::read_dir(dir)?.map(|entry| Ok(entry?.path()));
+    let mut files = files.collect::<std::io::Result<Vec<_>>>()?;
+    files.sort();
+    let mut cases = vec![];
+    for file in files {
+        cases.extend(store::read(&file)?);
+    }
+    run(cases.into_iter())
+}
+
+fn answer_file(file: &str, lent: usize) -> Done {
+    let outcome = oracle::call::call(&fs::read(file)?, lent);
     let (number, answer) = cases::parts(&outcome);
     println!("{} {}", number, cases::word(answer));
     Ok(())
 }
 
-fn write_cases(seed: u64, count: usize, dir: &Path) -> Result<(), Box<dyn Error>> {
+fn write_cases(seed: u64, count: usize, dir: &Path) -> Done {
     fs::create_dir_all(dir)?;
     let mut file = fs::File::create(dir.join("cases.txt"))?;
-    for case in cases::cases(seed, count) {
+    for case in cases::small(seed, count) {
         writeln!(file, "{}", case.line())?;
-    }
-    Ok(())
-}
-
-fn print_reach(seed: u64, count: usize) -> Result<(), Box<dyn Error>> {
-    let mut met = [0; 11];
-    for case in cases::cases(seed, count) {
-        met[cases::parts(&case.outcome).0 as usize] += 1;
-    }
-    println!("accepted {}", met[0]);
-    for (number, count) in met.iter().enumerate().skip(1) {
-        println!("refused {number} {count}");
     }
     Ok(())
 }

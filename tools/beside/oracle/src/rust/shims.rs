@@ -1,5 +1,6 @@
 //! Small stand-ins for the types of other crates that the cut text names.
 
+use std::cell::RefCell;
 use std::sync::Arc;
 
 use super::bounded;
@@ -27,9 +28,9 @@ pub struct Font {
 #[derive(Clone, Copy, Debug, PartialEq, Eq, Hash)]
 pub struct SpanNumber(pub usize);
 
-/// What shaping gives: the job's glyphs of each span of the chunk.
+/// What shaping gives: the job's glyphs of each span of the chunk, which is shaped once.
 pub struct FontResolver {
-    pub shaped: Vec<Vec<Glyph>>,
+    pub shaped: RefCell<Vec<Vec<Glyph>>>,
 }
 
 pub mod fontdb {
@@ -48,7 +49,8 @@ pub fn shape_text(
     resolver: &FontResolver,
     _fontdb: &mut Arc<fontdb::Database>,
 ) -> bounded::Vec<Glyph> {
-    bounded::Vec::from(resolver.shaped[variations.0].clone())
+    let glyphs = std::mem::take(&mut resolver.shaped.borrow_mut()[variations.0]);
+    bounded::Vec::from(glyphs)
 }
 
 pub struct Text {

@@ -1,5 +1,7 @@
 //! A checked job as the Rust's own types.
 
+use std::cell::RefCell;
+
 use super::*;
 use crate::job::{self, Job, NO_FONT};
 use shims::SpanNumber;
@@ -39,7 +41,7 @@ pub fn cache(text: &Text, fonts: &[Arc<ResolvedFont>]) -> FontsCache {
 pub fn resolver(chunk: &job::Chunk, fonts: &[Arc<ResolvedFont>]) -> FontResolver {
     let shaped = |span: &job::Span| span.glyphs.iter().map(|g| glyph(g, fonts)).collect();
     FontResolver {
-        shaped: chunk.spans.iter().map(shaped).collect(),
+        shaped: RefCell::new(chunk.spans.iter().map(shaped).collect()),
     }
 }
 

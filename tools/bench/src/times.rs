@@ -1,0 +1,99 @@
+//! Time a call: the best of many rounds, the sides in turn, so that what else the machine does falls on both.
+
+use std::time::{Duration, Instant};
+
+use crate::classes::{classes, of_clusters};
+use crate::side::{buffer, call, Side};
+
+const ROUNDS: usize = 25;
+const ROUND: Duration = Duration::from_millis(4);
+const MOST_GROWTH: f64 = 2.2;
+
+struct Times {
+    library: f64,
+    rust: f64,
+}
+
+pub fn print_classes() {
+    println!("class           job bytes   library ns      Rust ns   share  target");
+    for class in classes() {
+        let times = measure(&class.job);
+        let share = times.library / times.rust;
+        println!(
+            "{:<14} {:>10} {:>12.0} {:>12.0} {:>7.3} {:>7} {}",
+            class.name,
+            class.job.len(),
+            times.library,
+            times.rust,
+            share,
+            class.target,
+            verdict(share <= class.target)
+        );
+    }
+}
+
+/// Clusters doubled from 64 to 1,024.
+pub fn print_growth() {
+    println!("clusters   library ns  growth      Rust ns  growth");
+    let mut last: Option<Times> = None;
+    for count in [64, 128, 256, 512, 1_024] {
+        let times = measure(&of_clusters(count));
+        print!("{count:>8} {:>12.0}", times.library);
+        match &last {
+            None => println!("         {:>12.0}", times.rust),
+            Some(last) => {
+                let growth = times.library / last.library;
+                println!(
+                    " {growth:>7.2} {:>12.0} {:>7.2} {}",
+                    times.rust,
+                    times.rust / last.rust,
+                    verdict(growth <= MOST_GROWTH)
+                );
+            }
+        }
+        last = Some(times);
+    }
+}
+
+fn verdict(held: bool) -> &'static str {
+    if held {
+        "pass"
+    } else {
+        "miss"
+    }
+}
+
+fn measure(job: &[u8]) -> Times {
+    let mut answer = buffer();
+    let sides = [Side::Library, Side::Rust];
+    let calls = sides.map(|side| calls_in_a_round(side, job, &mut answer));
+    let mut best = [f64::INFINITY; 2];
+    for _ in 0..ROUNDS {
+        for (i, &side) in sides.iter().enumerate() {
+            best[i] = best[i].min(round(side, job, &mut answer, calls[i]));
+        }
+    }
+    Times {
+        library: best[0],
+        rust: best[1],
+    }
+}
+
+fn calls_in_a_round(side: Side, job: &[u8], answer: &mut [u8]) -> usize {
+    let mut calls = 0;
+    let start = Instant::now();
+    while start.elapsed() < ROUND {
+        call(side, job, answer);
+        calls += 1;
+    }
+    calls
+}
+
+/// Nanoseconds a call.
+fn round(side: Side, job: &[u8], answer: &mut [u8], calls: usize) -> f64 {
+    let start = Instant::now();
+    for _ in 0..calls {
+        call(side, job, answer);
+    }
+    start.elapsed().as_nanos() as f64 / calls as f64
+}

@@ -1,0 +1,11 @@
+//! A job answered by the Rust's own layout.
+
+pub mod answer;
+pub mod bytes;
+pub mod call;
+pub mod check;
+pub mod decode;
+pub mod job;
+pub mod label;
+pub mod refusal;
+pub mod rust;

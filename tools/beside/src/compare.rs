@@ -1,0 +1,124 @@
+//! Both sides on the same job: the Rust's outcome, and what the library returns and leaves in the lent buffer.
+
+use oracle::bytes::hex;
+
+use crate::cases::{parts, Case};
+use crate::fields::name_at;
+use crate::library;
+
+/// Bytes around the lent buffer that no call may touch.
+const GUARD: usize = 64;
+const MOST_LENT: usize = 1 << 18;
+
+/// Memory with a pattern in it, from which buffers are lent; it is whole again after each call.
+pub struct Lender {
+    pattern: Vec<u8>,
+    memory: Vec<u8>,
+}
+
+impl Lender {
+    pub fn new() -> Self {
+        let size = MOST_LENT + 2 * GUARD;
+        let pattern: Vec<u8> = (0..size).map(|i| (i * 151 + 43) as u8 | 1).collect();
+        Lender {
+            memory: pattern.clone(),
+            pattern,
+        }
+    }
+
+    /// The first thing in which the library parts from the Rust.
+    pub fn difference(&mut self, case: &Case) -> Option<String> {
+        let job = case.job.clone();
+        let returned = library::call(&job, &mut self.memory[GUARD..GUARD + case.lent]);
+        let (number, answer) = parts(&case.outcome);
+        let found = if job != case.job {
+            Some("the job was changed".to_string())
+        } else if returned.number != number as u32 {
+            Some(format!("number {}, the Rust {number}", returned.number))
+        } else if returned.length as usize != answer.len() {
+            let length = returned.length;
+            Some(format!("length {length}, the Rust {}", answer.len()))
+        } else {
+            self.difference_in_memory(answer, case.lent)
+        };
+        let used = case.lent + 2 * GUARD;
+        self.memory[..used].copy_from_slice(&self.pattern[..used]);
+        found
+    }
+
+    fn difference_in_memory(&mut self, answer: &[u8], lent: usize) -> Option<String> {
+        let end = GUARD + answer.len();
+        let past = end..lent + 2 * GUARD;
+        let got = &self.memory[GUARD..end];
+        if let Some(at) = first_difference(got, answer) {
+            let field = name_at(answer, at);
+            return Some(format!(
+                "{field}: byte {at} {:02x}, the Rust {:02x}",
+                got[at], answer[at]
+            ));
+        }
+        let place = |at: usize| match at {
+            at if at < GUARD => "before the lent buffer".to_string(),
+            at if at < GUARD + lent => {
+                format!("byte {} of the lent buffer, past the answer", at - GUARD)
+            }
+            _ => "past the lent buffer".to_string(),
+        };
+        let before = first_difference(&self.memory[..GUARD], &self.pattern[..GUARD]);
+        let after = || {
+            let found = first_difference(&self.memory[past.clone()], &self.pattern[past]);
+            found.map(|at| at + end)
+        };
+        before
+            .or_else(after)
+            .map(|at| format!("{} was written", place(at)))
+    }
+}
+
+fn first_difference(one: &[u8], other: &[u8]) -> Option<usize> {
+    if one == other {
+        return None;
+    }
+    one.iter().zip(other).position(|(a, b)| a != b)
+}
+
+/// What a run met.
+#[derive(Default)]
+pub struct Tally {
+    jobs: usize,
+    met: [usize; 11],
+    differences: usize,
+}
+
+/// Differences printed in full; the rest are counted.
+const MOST_PRINTED: usize = 20;
+
+impl Tally {
+    pub fn add(&mut self, case: &Case, difference: Option<String>) {
+        if let Some(difference) = difference {
+            if self.differences < MOST_PRINTED {
+                println!("job {}: {difference}", self.jobs);
+                println!("  lent {} job {}", case.lent, hex(&case.job));
+            }
+            self.differences += 1;
+        }
+        self.jobs += 1;
+        self.met[parts(&case.outcome).0 as usize] += 1;
+    }
+
+    pub fn print(&self) {
+        let refused: Vec<String> = self.met[1..].iter().map(|n| n.to_string()).collect();
+        println!("jobs {}", self.jobs);
+        println!("accepted {}", self.met[0]);
+        println!("refused 1 to 10: {}", refused.join(", "));
+    }
+
+    /// The run's verdict: no difference.
+    pub fn verdict(&self) -> Result<(), String> {
+        println!("differences {}", self.differences);
+        match self.differences {
+            0 => Ok(()),
+            n => Err(format!("{n} jobs differ")),
+        }
+    }
+}

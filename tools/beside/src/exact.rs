@@ -1,0 +1,362 @@
+//! The exact layout of document 01: steps 1, 2 and 4 to 7 in fractions. It takes nothing from the answer but which clusters collapsed.
+//!
+//! All fractions of a chunk have one denominator: 2^149, which every float divides, times twice the least common multiples of the
+//! fonts' units per em and of the numbers that Spacing divides by.
+
+use oracle::job::{Chunk, Glyph, Job, Pattern, Span};
+
+use crate::tables::{LISTED, WORD_SEPARATORS};
+use crate::whole::Whole;
+
+pub struct Exact {
+    /// The offset of each cluster, in the chunk's units.
+    pub offsets: Vec<Whole>,
+    pub byte_indexes: Vec<u16>,
+    /// The glyphs that stand in clusters, and what document 01 calls T.
+    pub glyphs: usize,
+    pub sizes: Whole,
+    units: Units,
+}
+
+impl Exact {
+    /// How far a float is from the offset of cluster `i`.
+    pub fn distance(&self, i: usize, shift: f32) -> Whole {
+        (self.units.float(shift) - self.offsets[i]).size()
+    }
+}
+
+/// None where the chunk has no cluster.
+pub fn exact(
+    job: &Job,
+    chunk: &Chunk,
+    first_character: usize,
+    collapsed: &[bool],
+) -> Option<Exact> {
+    let merged = merged(chunk);
+    let groups = groups(&merged, chunk);
+    if groups.is_empty() {
+        return None;
+    }
+    let units = Units::of(job, chunk, &groups);
+    let mut clusters: Vec<Cluster> = groups.iter().map(|g| cluster(g, job, &units)).collect();
+    let shifts = shifts(job, chunk, &groups, first_character, &units);
+    let sizes = sizes(chunk, &groups, &clusters, &shifts, &units);
+    space_letters(chunk, &groups, &mut clusters, collapsed, &units);
+    space_words(chunk, &groups, &mut clusters, &units);
+    for span in &chunk.spans {
+        adjust_length(span, &groups, &mut clusters, &units);
+    }
+    Some(Exact {
+        offsets: positions(job.mode, chunk.anchor, &groups, &clusters, &shifts),
+        byte_indexes: groups.iter().map(|g| g.byte_index()).collect(),
+        glyphs: groups.iter().map(|g| g.glyphs.len()).sum(),
+        sizes,
+        units,
+    })
+}
+
+/// Step 1, for chunks whose merge is accepted.
+fn merged(chunk: &Chunk) -> Vec<&Glyph> {
+    let mut list: Vec<&Glyph> = vec![];
+    for span in &chunk.spans {
+        if list.is_empty() {
+            list = span.glyphs.iter().collect();
+        } else {
+            replace(&mut list, span);
+        }
+    }
+    list
+}
+
+fn replace<'a>(list: &mut Vec<&'a Glyph>, span: &'a Span) {
+    let mut replaced = vec![];
+    let mut new = span.glyphs.iter();
+    while let Some(glyph) = new.next() {
+        let first = list.iter().position(|g| g.byte_index == glyph.byte_index);
+        let Some(at) = first.filter(|at| covers(span, glyph) && !replaced.contains(at)) else {
+            continue;
+        };
+        replaced.push(at);
+        let (old, length) = (list[at].cluster_length, glyph.cluster_length);
+        if old < length {
+            list.drain(at + 1..at + length as usize);
+        } else if old > length {
+            let more = new.by_ref().take(old as usize - 1);
+            more.enumerate()
+                .for_each(|(i, g)| list.insert(at + 1 + i, g));
+        }
+        list[at] = glyph;
+    }
+}
+
+fn covers(span: &Span, glyph: &Glyph) -> bool {
+    (span.start..span.end).contains(&glyph.byte_index)
+}
+
+/// The glyphs of a cluster, and the span that covers them.
+struct Group<'a> {
+    glyphs: &'a [&'a Glyph],
+    span: &'a Span,
+}
+
+impl Group<'_> {
+    fn byte_index(&self) -> u16 {
+        self.glyphs[0].byte_index
+    }
+}
+
+fn groups<'a>(merged: &'a [&'a Glyph], chunk: &'a Chunk) -> Vec<Group<'a>> {
+    let neighbours = merged.chunk_by(|a, b| a.byte_index == b.byte_index);
+    let covered = neighbours.filter_map(|glyphs| {
+        let span = chunk.spans.iter().find(|span| covers(span, glyphs[0]))?;
+        Some(Group { glyphs, span })
+    });
+    covered.collect()
+}
+
+/// The places in the list of the clusters that take part in a span's text length: of each byte index the first.
+fn taking_part(span: &Span, groups: &[Group]) -> Vec<usize> {
+    let of_span = |i: &usize| (span.start..span.end).contains(&groups[*i].byte_index());
+    let first = |i: &usize| {
+        let index = groups[*i].byte_index();
+        groups[..*i].iter().all(|g| g.byte_index() != index)
+    };
+    (0..groups.len()).filter(of_span).filter(first).collect()
+}
+
+/// One, as a multiple of the chunk's unit, less the 2^149.
+struct Units {
+    one: Whole,
+}
+
+impl Units {
+    fn of(job: &Job, chunk: &Chunk, groups: &[Group]) -> Units {
+        let glyphs = groups.iter().flat_map(|g| g.glyphs);
+        let ems = glyphs.map(|g| job.fonts[g.font as usize].units_per_em as u64);
+        let spaced = chunk
+            .spans
+            .iter()
+            .filter(|s| s.length_flag == 1 && s.adjust == 0);
+        let gaps = spaced.map(|span| taking_part(span, groups).len().saturating_sub(1) as u64);
+        let one = common_multiple(ems);
+        let gaps = common_multiple(gaps.filter(|&gaps| gaps > 0));
+        Units {
+            one: product(one, gaps).times(2),
+        }
+    }
+
+    fn float(&self, x: f32) -> Whole {
+        let bits = x.to_bits();
+        let (exponent, fraction) = (bits >> 23 & 0xff, bits & 0x7f_ffff);
+        assert!(exponent < 0xff, "not finite");
+        let (mantissa, shift) = match exponent {
+            0 => (fraction, 0),
+            _ => (fraction | 0x80_0000, exponent - 1),
+        };
+        let size = self.one.times(mantissa as i64).shifted(shift);
+        if x.is_sign_negative() {
+            -size
+        } else {
+            size
+        }
+    }
+
+    fn pattern(&self, x: Pattern) -> Whole {
+        self.float(f32::from_bits(x))
+    }
+}
+
+/// As factors, so that two of them can be multiplied.
+fn common_multiple(numbers: impl Iterator<Item = u64>) -> Vec<u64> {
+    let mut numbers: Vec<u64> = numbers.collect();
+    numbers.sort_unstable();
+    numbers.dedup();
+    let mut multiple = Whole::from(1);
+    let mut factors = vec![];
+    for n in numbers {
+        let factor = n / common_divisor(multiple.rest(n), n);
+        multiple = multiple.times(factor as i64);
+        factors.push(factor);
+    }
+    factors
+}
+
+fn common_divisor(a: u64, b: u64) -> u64 {
+    if a == 0 {
+        b
+    } else {
+        common_divisor(b % a, a)
+    }
+}
+
+fn product(one: Vec<u64>, other: Vec<u64>) -> Whole {
+    let factors = one.into_iter().chain(other);
+    factors.fold(Whole::from(1), |product, n| product.times(n as i64))
+}
+
+struct Cluster {
+    width: Whole,
+    advance: Whole,
+    length_spacing: Whole,
+    /// The sizes of its glyphs' advances.
+    sizes: Whole,
+}
+
+/// Step 2.
+fn cluster(group: &Group, job: &Job, units: &Units) -> Cluster {
+    let size = units.pattern(group.span.size);
+    let mut cluster = Cluster {
+        width: Whole::ZERO,
+        advance: Whole::ZERO,
+        length_spacing: Whole::ZERO,
+        sizes: Whole::ZERO,
+    };
+    for glyph in group.glyphs {
+        let em = job.fonts[glyph.font as usize].units_per_em;
+        let advance = size.divided(em as u64).times(glyph.width as i64);
+        cluster.width = cluster.width.max(advance);
+        cluster.advance += advance;
+        cluster.sizes += advance.size();
+    }
+    cluster
+}
+
+/// Step 4.
+fn space_letters(
+    chunk: &Chunk,
+    groups: &[Group],
+    clusters: &mut [Cluster],
+    collapsed: &[bool],
+    units: &Units,
+) {
+    let last = clusters.len() - 1;
+    let any = chunk.spans.iter().any(|s| s.letter_spacing << 1 != 0);
+    for (i, cluster) in clusters.iter_mut().enumerate() {
+        let tag = &groups[i].glyphs[0].tag;
+        let listed = LISTED.contains(&tag);
+        if any && !listed && i != last {
+            cluster.advance += units.pattern(groups[i].span.letter_spacing);
+        }
+        if collapsed.get(i) == Some(&true) {
+            (cluster.width, cluster.advance) = (Whole::ZERO, Whole::ZERO);
+        }
+    }
+}
+
+/// Step 5.
+fn space_words(chunk: &Chunk, groups: &[Group], clusters: &mut [Cluster], units: &Units) {
+    let text = std::str::from_utf8(&chunk.text).unwrap();
+    for (group, cluster) in groups.iter().zip(clusters) {
+        if text[group.byte_index() as usize..].starts_with(WORD_SEPARATORS) {
+            cluster.advance += units.pattern(group.span.word_spacing);
+        }
+    }
+}
+
+/// Step 6. Stretched glyphs keep their advances.
+fn adjust_length(span: &Span, groups: &[Group], clusters: &mut [Cluster], units: &Units) {
+    if span.length_flag == 0 || span.adjust == 1 {
+        return;
+    }
+    let places = taking_part(span, groups);
+    let widths = places
+        .iter()
+        .fold(Whole::ZERO, |sum, &i| sum + clusters[i].width);
+    let amount = match places.len() {
+        0 | 1 => Whole::ZERO,
+        n => (units.pattern(span.text_length) - widths).divided(n as u64 - 1),
+    };
+    for i in places {
+        clusters[i].advance = clusters[i].width + amount;
+        clusters[i].length_spacing = amount;
+    }
+}
+
+/// What a cluster takes of dx and dy, and what it and those before it in text order have taken.
+struct Shifts {
+    own: (Whole, Whole),
+    so_far: (Whole, Whole),
+}
+
+fn shifts(job: &Job, chunk: &Chunk, groups: &[Group], first: usize, units: &Units) -> Vec<Shifts> {
+    let text = std::str::from_utf8(&chunk.text).unwrap();
+    let number = |group: &Group| first + text[..group.byte_index() as usize].chars().count();
+    let taken = |list: &[Pattern], n: usize| list.get(n).map_or(Whole::ZERO, |&x| units.pattern(x));
+    let own = |group: &Group| (taken(&job.dx, number(group)), taken(&job.dy, number(group)));
+    let zero = (Whole::ZERO, Whole::ZERO);
+    let mut shifts: Vec<Shifts> = groups
+        .iter()
+        .map(|g| Shifts {
+            own: own(g),
+            so_far: zero,
+        })
+        .collect();
+    let mut sum = zero;
+    for i in text_order(groups) {
+        sum = (sum.0 + shifts[i].own.0, sum.1 + shifts[i].own.1);
+        shifts[i].so_far = sum;
+    }
+    shifts
+}
+
+fn text_order(groups: &[Group]) -> Vec<usize> {
+    let mut order: Vec<usize> = (0..groups.len()).collect();
+    order.sort_by_key(|&i| groups[i].byte_index());
+    order
+}
+
+/// Step 7: the offset of each cluster along the line.
+fn positions(
+    mode: u8,
+    anchor: u8,
+    groups: &[Group],
+    clusters: &[Cluster],
+    shifts: &[Shifts],
+) -> Vec<Whole> {
+    let along = |i: usize| match mode {
+        0 => shifts[i].so_far.0,
+        _ => shifts[i].so_far.1,
+    };
+    let (mut left, mut right) = (along(0), along(0));
+    let mut pen = Whole::ZERO;
+    for (i, cluster) in clusters.iter().enumerate() {
+        let start = pen + along(i);
+        let end = start + cluster.advance - cluster.length_spacing;
+        left = left.min(start).min(end);
+        right = right.max(start).max(end);
+        pen += cluster.advance;
+    }
+    let anchored = match anchor {
+        0 => Whole::ZERO,
+        1 => (left - right).divided(2),
+        _ => left - right,
+    };
+    let mut x = along(text_order(groups)[0]) - left + anchored;
+    let mut offsets = vec![];
+    for (i, cluster) in clusters.iter().enumerate() {
+        offsets.push(x + along(i));
+        x += cluster.advance;
+    }
+    offsets
+}
+
+/// T.
+fn sizes(
+    chunk: &Chunk,
+    groups: &[Group],
+    clusters: &[Cluster],
+    shifts: &[Shifts],
+    units: &Units,
+) -> Whole {
+    let mut sizes = Whole::ZERO;
+    for ((group, cluster), shift) in groups.iter().zip(clusters).zip(shifts) {
+        let span = group.span;
+        sizes += cluster.sizes + shift.own.0.size() + shift.own.1.size();
+        sizes +=
+            units.pattern(span.letter_spacing).size() + units.pattern(span.word_spacing).size();
+    }
+    let lengths = chunk.spans.iter().filter(|span| span.length_flag == 1);
+    lengths.fold(sizes, |sum, span| {
+        sum + units.pattern(span.text_length).size()
+    })
+}
