@@ -1,4 +1,6 @@
 // The steps of a chunk, one after the other, on rows that its owner lends.
+pub mod place;
+
 use forming::chunk::form_clusters;
 use labels::Job;
 use length_adjust::Adjusted;
@@ -10,7 +12,7 @@ use spacing::word::apply_word_spacing;
 ghost use mathlib.Core.Path.{_≡_};
 ghost use mathlib.Core.Bool.{true};
 ghost use mathlib.Core.List.{map};
-ghost use Prim.Native.Nat.{ℕ, _≤_, _<_};
+ghost use Prim.Native.Nat.{_≤_, _<_};
 ghost use lib.ListN.{length, take};
 ghost use Rattle.labels.specs.Spacing.{applyLetterSpacing};
 ghost use Rattle.labels.specs.Cluster.{rounded, applyWritingMode};

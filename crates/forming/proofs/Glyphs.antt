@@ -20,7 +20,7 @@ map-next f l i d h =
     let h₁ : i < length (map f l) = rw (length-map l f) h in
     rw (add-one, drop-cons (map f l) i (f d) h₁, map-in f l i d (f d) h)
 
-map-take : {A B : Type 0} (f : A → B) (n : ℕ) (l : List A) → take n (map f l) ≡ map f (take n l)
+pub map-take : {A B : Type 0} (f : A → B) (n : ℕ) (l : List A) → take n (map f l) ≡ map f (take n l)
 map-take f zero l = refl
 map-take f (suc n) [] = refl
 map-take f (suc n) (x ∷ l) = ap {B = List _} (λ r. f x ∷ r) (map-take f n l)

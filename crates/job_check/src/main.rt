@@ -13,14 +13,10 @@ fn show_record(fd: i32) {
 }
 
 fn show_file(i: usize) {
-    let mut path = io::buffer();
-    let n = os::arg(i, &mut path);
-    let fd = os::open_read(&path[..n]);
+    let fd = named_files::open_argument(i);
     if fd < 0 {
-        os::fail(&path[..n]);
         return;
     }
-    io::write_all(STDOUT_FILENO, &path[..n]);
     io::write_all(STDOUT_FILENO, b" ");
     show_record(fd);
     libc::close(fd);

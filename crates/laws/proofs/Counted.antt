@@ -62,7 +62,7 @@ parts-counted bs t =
       glyphs = rw length-rows (leb→le _ _ (first (rest conditions)));
     }
 
-chunk-counted : (bs : List ℕ) → T (chunkFits bs) → CountedChunk (chunkOf bs)
+pub chunk-counted : (bs : List ℕ) → T (chunkFits bs) → CountedChunk (chunkOf bs)
 unfolding chunkFits chunkOf
 chunk-counted bs t =
     let conditions = all-every _ t in

@@ -5,6 +5,7 @@ pub mod AnswerLength
 pub mod All
 pub mod Accepted
 pub mod Counted
+pub mod ChunkPassed
 pub mod Merged
 pub mod AsMany
 pub mod ReadBack

@@ -1,7 +1,6 @@
 -- One turn and the end of the loop over a span's glyphs, and of that over a chunk's spans. Assumes nothing.
 use Prim.Native.Nat.{ℕ, _+_, _-_, _≤_, _<_}
 use mathlib.Core.Path.{_≡_, refl, sym, ap, _∙_}
-use mathlib.Core.Bool.{Bool}
 use mathlib.Core.List.{List, [], _∷_, foldl}
 use lib.ListN.{drop}
 use lib.Seq.{drop-drop}
@@ -23,16 +22,16 @@ unfolding mergeGlyph
 fold-halted span k [] = refl
 fold-halted span k (g ∷ gs) = fold-halted span k gs
 
-module _ (s : List ℕ) (span : Span) (whole : Merging) where
+module _ (s : List ℕ) (span : Span) (stamp : ℕ) (whole : Merging) where
   -- the n glyphs from `row` on, merged into what is there now, give `whole`
-  pub record Left (rows : List ℕ) (marks : List Bool) (at : Progress) (row n : ℕ) : Type 0 where
+  pub record Left (rows marks : List ℕ) (at : Progress) (row n : ℕ) : Type 0 where
     pub positions : List ℕ
-    pub marked : Marked marks positions
+    pub marked : Marked stamp marks positions
     pub rest : foldl (mergeGlyph span) (mergingOf (Going at) s rows positions) (records (λ b. glyphBytes) glyphOf n (drop row s)) ≡ whole
 
   -- the merge of the glyph at `row` gave r
-  module _ (rows rows₁ : List ℕ) (marks marks₁ : List Bool) (at : Progress) (row n : ℕ) (r : Step) (l : Left rows marks at row n) (h : 0 < n)
-      (did : (positions : List ℕ) → Marked marks positions → Stands r s rows₁ marks₁ (mergeGlyph span (merging (glyphsIn s rows (at .count)) positions (at .owed) (at .next)) (glyphOf (drop row s)))) where
+  module _ (rows rows₁ marks marks₁ : List ℕ) (at : Progress) (row n : ℕ) (r : Step) (l : Left rows marks at row n) (h : 0 < n)
+      (did : (positions : List ℕ) → Marked stamp marks positions → Stands r s rows₁ stamp marks₁ (mergeGlyph span (merging (glyphsIn s rows (at .count)) positions (at .owed) (at .next)) (glyphOf (drop row s)))) where
     next : foldl (mergeGlyph span) (mergingOf r s rows₁ (did (l .positions) (l .marked) .positions)) (records (λ b. glyphBytes) glyphOf (n - 1) (drop (row + glyphBytes) s)) ≡ whole
     unfolding mergingOf
     next =
@@ -52,6 +51,6 @@ module _ (s : List ℕ) (span : Span) (whole : Merging) where
         let left : List Glyph = records (λ b. glyphBytes) glyphOf (n - 1) (drop (row + glyphBytes) s) in
         ap mergeDone (sym (fold-halted span k left) ∙ (rw e at next))
 
-  pub left-done : (rows : List ℕ) (marks : List Bool) (at : Progress) (row n : ℕ) → Left rows marks at row n → n ≤ 0 → given (glyphsIn s rows (at .count)) ≡ mergeDone whole
+  pub left-done : (rows marks : List ℕ) (at : Progress) (row n : ℕ) → Left rows marks at row n → n ≤ 0 → given (glyphsIn s rows (at .count)) ≡ mergeDone whole
   unfolding mergingOf mergeDone
   left-done rows marks at row n l h = ap mergeDone (rw (rows-done (λ b. glyphBytes) glyphOf n (drop row s) h) at (l .rest))

@@ -1,8 +1,8 @@
 -- A span's merge on its way, as the code holds it, beside the definitions' state. Definitions only.
-use Prim.Native.Nat.{ℕ, _≤_, _<_}
+use Prim.Native.Nat.{ℕ, _+_, _≤_, _<_}
 use mathlib.Core.Path.{_≡_}
-use mathlib.Core.Bool.{Bool, false}
 use mathlib.Core.List.{List}
+use lib.Dec.{eqb}
 use lib.ListN.{getD, length}
 use Rattle.labels.specs.Lists.{among}
 use Rattle.labels.specs.Job.{limits}
@@ -26,12 +26,17 @@ abbrev pub Within : Step → Type 0
 Within (Going at) = (at .count ≤ limits .merged) × (at .next ≤ at .count)
 Within (Halted k) = Unit {0}
 
--- a mark is set at the places replaced so far, and at no other
-abbrev pub Marked : List Bool → List ℕ → Type 0
-Marked marks positions = (p : ℕ) → p < length marks → among p positions ≡ getD marks p false
+-- every mark is less than n
+abbrev pub Below : ℕ → List ℕ → Type 0
+Below n marks = (p : ℕ) → p < length marks → getD marks p 0 < n
 
--- the step is at the definitions' state m, with the marks at the places that it remembers
-pub record Stands (r : Step) (s rows : List ℕ) (marks : List Bool) (m : Merging) : Type 0 where
+-- a mark is the span's stamp at the places replaced so far, and less at every other
+pub record Marked (stamp : ℕ) (marks positions : List ℕ) : Type 0 where
+  pub below : Below (stamp + 1) marks
+  pub stamped : (p : ℕ) → p < length marks → among p positions ≡ eqb (getD marks p 0) stamp
+
+-- the step is at the definitions' state m, with the stamp at the places that it remembers
+pub record Stands (r : Step) (s rows : List ℕ) (stamp : ℕ) (marks : List ℕ) (m : Merging) : Type 0 where
   pub positions : List ℕ
-  pub marked : Marked marks positions
+  pub marked : Marked stamp marks positions
   pub is : mergingOf r s rows positions ≡ m

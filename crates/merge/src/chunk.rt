@@ -20,24 +20,28 @@ ghost use Rattle.labels.specs.Merge.{merging, mergeGlyph, mergeDone, mergeSpan,
 ghost use Rattle.laws.proofs.All.{All};
 ghost use Rattle.lookup.specs.Rows.{partsIn};
 ghost use Rattle.merge.specs.Merged.{glyphsIn, mergedOf, Held, FewGlyphs};
+ghost use Rattle.merge.specs.Steps.{Below};
 
-// The `n` glyphs that stand from `first` on are merged into a list that is not empty. The marks remember the places that were replaced.
+// The `n` glyphs that stand from `first` on are merged into a list that is not empty. A place that is replaced gets the span's stamp as its
+// mark. The marks that earlier spans left are less, so that they need not be cleared.
 fn merge_glyphs(
     s: &[u8],
     span: Span,
     rows: &mut [u32; 1024],
+    marks: &mut [u8; 1024],
+    stamp: u8,
     count: usize,
     first: u32,
     n: usize,
 ) -> Merge
-    requires { ⌜ (length (now rows) ≡ 1024) × (count ≤ 1024) × (n ≤ 1024) × (first ≤ 2_000_000) ⌝ }
-    ensures { λ r. ⌜ (length (now (rows .exit)) ≡ 1024)
+    requires { ⌜ (length (now rows) ≡ 1024) × (length (now marks) ≡ 1024) × Below stamp (now marks)
+        × (count ≤ 1024) × (n ≤ 1024) × (first ≤ 2_000_000) ⌝ }
+    ensures { λ r. ⌜ (length (now (rows .exit)) ≡ 1024) × (length (now (marks .exit)) ≡ 1024) × Below (stamp + 1) (now (marks .exit))
         × Held r
         × (mergedOf r (now (s .entry)) (now (rows .exit))
         ≡ mergeDone (foldl (mergeGlyph span) (merging (glyphsIn (now (s .entry)) (now (rows .entry)) count) [] 0 0)
         (records (λ b. glyphBytes) glyphOf n (drop first (now (s .entry)))))) ⌝ }
 {
-    let mut marks = [false; 1024];
     let mut at = Progress {
         count,
         owed: 0,
@@ -46,7 +50,7 @@ fn merge_glyphs(
     let mut row = first;
     let mut left = n;
     while 0 < left {
-        match merge_glyph(s, span, rows, &mut marks, at, row) {
+        match merge_glyph(s, span, rows, marks, stamp, at, row) {
             Step::Going(next) => at = next,
             Step::Halted(k) => return Merge::Refused(k),
         }
@@ -87,9 +91,17 @@ fn glyph_rows(s: &[u8], at: usize) -> GlyphRows
 }
 
 // The next span, which stands at `at`. While the list is empty, the span's whole glyph list becomes it.
-pub fn merge_span(s: &[u8], at: usize, rows: &mut [u32; 1024], count: usize) -> Merge
-    requires { ⌜ (length (now s) ≤ 1_048_576) × FewGlyphs (partsOf (drop at (now s))) × (length (now rows) ≡ 1024) × (count ≤ 1024) ⌝ }
-    ensures { λ r. ⌜ (length (now (rows .exit)) ≡ 1024)
+pub fn merge_span(
+    s: &[u8],
+    at: usize,
+    rows: &mut [u32; 1024],
+    marks: &mut [u8; 1024],
+    stamp: u8,
+    count: usize,
+) -> Merge
+    requires { ⌜ (length (now s) ≤ 1_048_576) × FewGlyphs (partsOf (drop at (now s))) × (length (now rows) ≡ 1024)
+        × (length (now marks) ≡ 1024) × Below stamp (now marks) × (count ≤ 1024) ⌝ }
+    ensures { λ r. ⌜ (length (now (rows .exit)) ≡ 1024) × (length (now (marks .exit)) ≡ 1024) × Below (stamp + 1) (now (marks .exit))
         × Held r
         × (mergedOf r (now (s .entry)) (now (rows .exit))
         ≡ mergeSpan (given (glyphsIn (now (s .entry)) (now (rows .entry)) count)) (partsOf (drop at (now (s .entry))))) ⌝ }
@@ -100,20 +112,24 @@ pub fn merge_span(s: &[u8], at: usize, rows: &mut [u32; 1024], count: usize) -> 
         list_rows(rows, own.first, n);
         return Merge::Merged(n);
     }
-    merge_glyphs(s, span_at(s, at), rows, count, own.first, n)
+    merge_glyphs(s, span_at(s, at), rows, marks, stamp, count, own.first, n)
 }
 
 // The glyphs of the spans that stand at the places `spans`, merged into one list: its rows are the first of `rows`.
+// The marks are cleared once; a span's stamp is its number, from 1 on.
 pub fn process_chunk(s: &[u8], spans: &[usize], rows: &mut [u32; 1024]) -> Merge
-    requires { ⌜ (length (now s) ≤ 1_048_576) × All FewGlyphs (partsIn (now s) (now spans)) × (length (now rows) ≡ 1024) ⌝ }
+    requires { ⌜ (length (now s) ≤ 1_048_576) × (length (now spans) ≤ 255)
+        × All FewGlyphs (partsIn (now s) (now spans)) × (length (now rows) ≡ 1024) ⌝ }
     ensures { λ r. ⌜ (length (now (rows .exit)) ≡ 1024)
         × Held r
         × (mergedOf r (now (s .entry)) (now (rows .exit)) ≡ mergeGlyphs (partsIn (now (s .entry)) (now (spans .entry)))) ⌝ }
 {
+    let mut marks = [0u8; 1024];
     let mut count: usize = 0;
     let mut i: usize = 0;
     while i < spans.len() {
-        match merge_span(s, spans[i], rows, count) {
+        let stamp = (i + 1) as u8;
+        match merge_span(s, spans[i], rows, &mut marks, stamp, count) {
             Merge::Merged(n) => count = n,
             Merge::Refused(k) => return Merge::Refused(k),
         }

@@ -112,11 +112,13 @@ fn skip(count: usize) -> Step
     })
 }
 
-// The glyph at `row`, which the span covers, replaces the first of its byte index, unless that place was replaced already.
+// The glyph at `row`, which the span covers, replaces the first of its byte index, unless that place was replaced already:
+// then its mark is the span's stamp.
 pub fn replace_first(
     s: &[u8],
     rows: &mut [u32; 1024],
-    marks: &mut [bool; 1024],
+    marks: &mut [u8; 1024],
+    stamp: u8,
     count: usize,
     row: u32,
     index: u16,
@@ -124,18 +126,18 @@ pub fn replace_first(
     requires { ⌜ (length (now rows) ≡ 1024) × (length (now marks) ≡ 1024) × (count ≤ 1024) × (index ≡ glyphOf (drop row (now s)) .index) ⌝ }
     ensures { λ r. ⌜ (length (now (rows .exit)) ≡ 1024) × (length (now (marks .exit)) ≡ 1024)
         × Within r
-        × ((span : S.Span) (positions : List ℕ) → spanContains span index ≡ true → Marked (now (marks .entry)) positions
-        → Stands r (now (s .entry)) (now (rows .exit)) (now (marks .exit))
+        × ((span : S.Span) (positions : List ℕ) → spanContains span index ≡ true → Marked stamp (now (marks .entry)) positions
+        → Stands r (now (s .entry)) (now (rows .exit)) stamp (now (marks .exit))
         (replaceFirst span (glyphOf (drop row (now (s .entry)))) (glyphsIn (now (s .entry)) (now (rows .entry)) count) positions)) ⌝ }
 {
     let p = place_of(s, rows, count, index);
     if count <= p {
         return skip(count);
     }
-    if marks[p] {
+    if marks[p] == stamp {
         return skip(count);
     }
-    marks[p] = true;
+    marks[p] = stamp;
     replace(s, rows, count, p, row)
 }
 
@@ -144,14 +146,15 @@ pub fn merge_glyph(
     s: &[u8],
     span: Span,
     rows: &mut [u32; 1024],
-    marks: &mut [bool; 1024],
+    marks: &mut [u8; 1024],
+    stamp: u8,
     at: Progress,
     row: u32,
 ) -> Step
     requires { ⌜ (length (now rows) ≡ 1024) × (length (now marks) ≡ 1024) × (at .count ≤ 1024) × (at .next ≤ at .count) ⌝ }
     ensures { λ r. ⌜ (length (now (rows .exit)) ≡ 1024) × (length (now (marks .exit)) ≡ 1024)
         × Within r
-        × ((positions : List ℕ) → Marked (now (marks .entry)) positions → Stands r (now (s .entry)) (now (rows .exit)) (now (marks .exit))
+        × ((positions : List ℕ) → Marked stamp (now (marks .entry)) positions → Stands r (now (s .entry)) (now (rows .exit)) stamp (now (marks .exit))
         (mergeGlyph span (merging (glyphsIn (now (s .entry)) (now (rows .entry)) (at .count)) positions (at .owed) (at .next))
         (glyphOf (drop row (now (s .entry)))))) ⌝ }
 {
@@ -163,5 +166,5 @@ pub fn merge_glyph(
     if !covered {
         return skip(at.count);
     }
-    replace_first(s, rows, marks, at.count, row, index)
+    replace_first(s, rows, marks, stamp, at.count, row, index)
 }

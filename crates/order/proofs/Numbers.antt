@@ -33,7 +33,7 @@ bit-small : (b : Bool) → cond b 0 1 ≤ 1
 bit-small true = omega arith
 bit-small false = omega arith
 
-characters-few : (a : List ℕ) → characters a ≤ length a
+pub characters-few : (a : List ℕ) → characters a ≤ length a
 unfolding characters
 characters-few [] = omega arith
 characters-few (x ∷ a) = omega (arith, characters-few a, bit-small (continues x))

@@ -60,6 +60,13 @@ fn characters_between(text: &[u8], at: usize, end: usize) -> usize
     count
 }
 
+// How many characters a text has.
+pub fn character_count(text: &[u8]) -> usize
+    ensures { λ r. ⌜ (r ≡ characters (now (text .entry))) × (r ≤ length (now (text .entry))) ⌝ }
+{
+    characters_between(text, 0, text.len())
+}
+
 fn wide(n: u32) -> usize
     ensures { λ r. ⌜ r ≡ n ⌝ }
 {

@@ -1,9 +1,10 @@
 // Numbers read at a place. A byte past the end of the slice counts as 0.
 ghost use mathlib.Core.Path.{_≡_};
 ghost use Prim.Native.Nat.{_≤_, _<_, _^_};
-ghost use lib.ListN.{drop, getD};
+ghost use lib.ListN.{length, drop, getD};
 ghost use lib.Ieee.{binary32, ofBits};
 ghost use Rattle.labels.specs.Bytes.{be, signed, float};
+ghost use Rattle.wire.specs.Padded.{paddedOf};
 
 // The byte at `at`.
 pub fn byte_at(s: &[u8], at: usize) -> u8
@@ -21,19 +22,47 @@ fn wide(b: u8) -> u64
     b as u64
 }
 
-// The number that the `width` bytes at `at` hold.
+// The number that the first `width` bytes hold.
+fn number_of(row: &[u8], width: usize) -> u64
+    requires { ⌜ (width ≤ 8) × (width ≤ length (now row)) ⌝ }
+    ensures { λ r. ⌜ (r ≡ be width (now (row .entry))) × (r < 256 ^ width) ⌝ }
+{
+    let mut n: u64 = 0;
+    let mut i: usize = 0;
+    while i < width {
+        n = n * 256 + wide(row[i]);
+        i += 1;
+    }
+    n
+}
+
+// The first 8 bytes, with 0 for each that is missing.
+fn padded(row: &[u8]) -> [u8; 8]
+    ensures { λ r. ⌜ r ≡ paddedOf (now (row .entry)) ⌝ }
+{
+    [
+        byte_at(row, 0),
+        byte_at(row, 1),
+        byte_at(row, 2),
+        byte_at(row, 3),
+        byte_at(row, 4),
+        byte_at(row, 5),
+        byte_at(row, 6),
+        byte_at(row, 7),
+    ]
+}
+
+// The number that the `width` bytes at `at` hold. They are nearly always there, and then no byte is asked whether it is.
 pub fn number_at(s: &[u8], at: usize, width: usize) -> u64
     requires { ⌜ width ≤ 8 ⌝ }
     ensures { λ r. ⌜ (r ≡ be width (drop at (now (s .entry)))) × (r < 256 ^ width) ⌝ }
 {
     let row = crate::place::from(s, at);
-    let mut n: u64 = 0;
-    let mut i: usize = 0;
-    while i < width {
-        n = n * 256 + wide(byte_at(row, i));
-        i += 1;
+    if width <= row.len() {
+        return number_of(row, width);
     }
-    n
+    let bytes = padded(row);
+    number_of(&bytes, width)
 }
 
 pub fn u8_at(s: &[u8], at: usize) -> u8

@@ -1,9 +1,8 @@
 -- `merge::chunk::merge_glyphs` meets its contract. The loop's invariant: the glyphs left, merged into the list as it is, give the span's merge. Assumes nothing.
 use Prim.Native.Nat.{ℕ, _+_, _*_, _≤_}
 use mathlib.Core.Path.{_≡_, refl}
-use mathlib.Core.Bool.{Bool, false}
 use mathlib.Core.List.{List, [], foldl}
-use lib.ListN.{length, drop, length-replicate}
+use lib.ListN.{length, drop}
 use Rattle.labels.specs.Bytes.{rows as records}
 use Rattle.labels.specs.declared.Span.{Span}
 use Rattle.labels.specs.Decode.{glyphOf, glyphBytes}
@@ -23,29 +22,29 @@ whole s span rows count first n =
     foldl (mergeGlyph span) (merging (glyphsIn s rows count) [] 0 0) (records (λ b. glyphBytes) glyphOf n (drop first s))
 
 abbrev Inv-loop : tie.InvT-loop
-Inv-loop s span rows₀ count first n marks₀ at₀ row₀ left₀ rows marks at row left =
+Inv-loop s span rows₀ marks₀ stamp count first n at₀ row₀ left₀ rows marks at row left =
     (length rows ≡ 1024)
     × (length marks ≡ 1024)
     × (at .count ≤ 1024)
     × (at .next ≤ at .count)
     × (left ≤ n)
     × (row + left * 25 ≡ first + n * 25)
-    × Left s span (whole s span rows₀ count first n) rows marks at row left
+    × Left s span stamp (whole s span rows₀ count first n) rows marks at row left
 
 abbrev μ-loop : tie.MeasureT-loop
-μ-loop s span rows₀ count first n marks₀ at₀ row₀ left₀ rows marks at row left = left
+μ-loop s span rows₀ marks₀ stamp count first n at₀ row₀ left₀ rows marks at row left = left
 
 loop-holds : tie.Need-loop-holds Inv-loop μ-loop
 unfolding mergingOf
 loop-holds c =
     let a = c .before .args in (
       c .before .pre .0,
-      length-replicate {A = Bool} 1024 false,
+      c .before .pre .1,
       omega arith,
       omega arith,
       omega arith,
       omega arith,
-      record { positions = []; marked = marked-none 1024; rest = refl },
+      record { positions = []; marked = marked-none (a .stamp) (a .marks .now) (c .before .pre .2); rest = refl },
     )
 
 merge-glyph-requires : tie.Need-merge-glyph-requires Inv-loop μ-loop
@@ -65,8 +64,10 @@ returns c =
     let a = loop .before .before .args in
     let l = loop .loop in (
       did .ensures .0,
+      did .ensures .1,
+      did .ensures .3 (l .inv .6 .positions) (l .inv .6 .marked) .marked .below,
       tt,
-      left-halted (a .s .now) (a .span) (whole (a .s .now) (a .span) (a .rows .now) (a .count) (a .first) (a .n)) (l .rows) _ (l .marks) _ (l .at) (l .row) (l .left) (did .result) (l .inv .6) (omega arith) (did .ensures .3)
+      left-halted (a .s .now) (a .span) (a .stamp) (whole (a .s .now) (a .span) (a .rows .now) (a .count) (a .first) (a .n)) (l .rows) _ (l .marks) _ (l .at) (l .row) (l .left) (did .result) (l .inv .6) (omega arith) (did .ensures .3)
           _ (c .before .k .given .1),
     )
 
@@ -92,7 +93,7 @@ loop-again c =
       within .1,
       omega arith,
       omega arith,
-      left-on (a .s .now) (a .span) (whole (a .s .now) (a .span) (a .rows .now) (a .count) (a .first) (a .n)) (l .rows) _ (l .marks) _ (l .at) (l .row) (l .left) (did .result) (l .inv .6) (omega arith) (did .ensures .3)
+      left-on (a .s .now) (a .span) (a .stamp) (whole (a .s .now) (a .span) (a .rows .now) (a .count) (a .first) (a .n)) (l .rows) _ (l .marks) _ (l .at) (l .row) (l .left) (did .result) (l .inv .6) (omega arith) (did .ensures .3)
           _ (c .before .next .given .1),
     )
 
@@ -102,8 +103,10 @@ returns-2 c =
     let a = c .before .before .before .args in
     let l = c .before .loop in (
       l .inv .0,
+      l .inv .1,
+      l .inv .6 .marked .below,
       l .inv .2,
-      left-done (a .s .now) (a .span) (whole (a .s .now) (a .span) (a .rows .now) (a .count) (a .first) (a .n)) (l .rows) (l .marks) (l .at) (l .row) (l .left) (l .inv .6) (omega arith),
+      left-done (a .s .now) (a .span) (a .stamp) (whole (a .s .now) (a .span) (a .rows .now) (a .count) (a .first) (a .n)) (l .rows) (l .marks) (l .at) (l .row) (l .left) (l .inv .6) (omega arith),
     )
 
 pub merge-glyphs-spec : {M : Type 1} → statement M

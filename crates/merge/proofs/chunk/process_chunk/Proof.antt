@@ -1,13 +1,15 @@
 -- `merge::chunk::process_chunk` meets its contract. The loop's invariant: the spans left, merged into the list as it is, give the chunk's merge. Assumes nothing.
-use Prim.Native.Nat.{_-_, _≤_}
+use Prim.Native.Nat.{ℕ, _+_, _-_, _≤_}
 use mathlib.Core.Path.{_≡_}
 use mathlib.Core.List.{foldl}
-use lib.ListN.{length, drop}
+use lib.ListN.{length, drop, length-replicate}
 use Rattle.labels.specs.Outcome.{given}
 use Rattle.labels.specs.Merge.{mergeSpan, mergeGlyphs}
 use Rattle.laws.proofs.All.{All}
 use Rattle.lookup.specs.Rows.{partsIn}
 use Rattle.merge.specs.Merged.{glyphsIn, mergedOf, FewGlyphs}
+use Rattle.merge.specs.Steps.{Below}
+use Rattle.merge.proofs.Marks.{below-clear}
 use Rattle.merge.proofs.Spans.{spans-start, spans-on, spans-stop, spans-done, few-here, few-on}
 use borrow.Author.Needs.{needs}
 use native.Mathlib.Omega.{arith}
@@ -15,21 +17,29 @@ use Rattle.merge.proofs.chunk.process_chunk.Statement.{statement}
 use Rattle.merge.proofs.chunk.process_chunk.Tie as tie
 
 abbrev Inv-loop : tie.InvT-loop
-Inv-loop s spans rows₀ count₀ i₀ rows count i =
+Inv-loop s spans rows₀ marks₀ count₀ i₀ rows marks count i =
     (length rows ≡ 1024)
+    × (length marks ≡ 1024)
+    × Below (i + 1) marks
     × (count ≤ 1024)
     × (i ≤ length spans)
     × All FewGlyphs (partsIn s (drop i spans))
     × (foldl mergeSpan (given (glyphsIn s rows count)) (partsIn s (drop i spans)) ≡ mergeGlyphs (partsIn s spans))
 
 abbrev μ-loop : tie.MeasureT-loop
-μ-loop s spans rows₀ count₀ i₀ rows count i = length spans - i
+μ-loop s spans rows₀ marks₀ count₀ i₀ rows marks count i = length spans - i
 
 loop-holds : tie.Need-loop-holds Inv-loop μ-loop
 loop-holds c =
     let start = c .before .before in
     let a = start .args in
-    (start .pre .2, omega arith, omega arith, start .pre .1, spans-start (a .s .now) (a .rows .now) (partsIn (a .s .now) (a .spans .now)))
+    (start .pre .3, length-replicate {A = ℕ} 1024 0, below-clear 1024, omega arith, omega arith, start .pre .2, spans-start (a .s .now) (a .rows .now) (partsIn (a .s .now) (a .spans .now)))
+
+add-stamp : tie.Need-add-stamp Inv-loop μ-loop
+add-stamp c = search needs
+
+cast-stamp : tie.Need-cast-stamp Inv-loop μ-loop
+cast-stamp c = search needs
 
 mul-merge-span : tie.Need-mul-merge-span Inv-loop μ-loop
 mul-merge-span c = search needs
@@ -39,11 +49,11 @@ shared-slice-read-merge-span c = search needs
 
 merge-span-requires : tie.Need-merge-span-requires Inv-loop μ-loop
 merge-span-requires c κs =
-    let loop = c .before .before .before in
+    let loop = c .before .before .before .before in
     let start = loop .before .before .before in
     let a = start .args in
     let l = loop .loop in
-    (start .pre .0, few-here (a .s .now) (a .spans .now) (l .i) (omega arith) (l .inv .3), l .inv .0, l .inv .1)
+    (start .pre .0, few-here (a .s .now) (a .spans .now) (l .i) (omega arith) (l .inv .5), l .inv .0, l .inv .1, l .inv .2, l .inv .3)
 
 enum-known-n : tie.Need-enum-known-n Inv-loop μ-loop
 enum-known-n c = search needs
@@ -55,14 +65,14 @@ returns : tie.Need-returns Inv-loop μ-loop
 unfolding mergedOf
 returns c =
     let did = c .before .before .before .merge-span in
-    let loop = c .before .before .before .before .before .before .before in
+    let loop = c .before .before .before .before .before .before .before .before in
     let a = loop .before .before .before .args in
     let l = loop .loop in
     let s = a .s .now in (
       did .ensures .0,
       tt,
-      spans-stop s (a .spans .now) (l .i) (given (glyphsIn s (l .rows) (l .count))) (mergeGlyphs (partsIn s (a .spans .now))) (l .inv .4) (c .before .k .given .0 .0) (omega arith)
-          (rw (c .before .k .given .1) at (did .ensures .2)),
+      spans-stop s (a .spans .now) (l .i) (given (glyphsIn s (l .rows) (l .count))) (mergeGlyphs (partsIn s (a .spans .now))) (l .inv .6) (c .before .k .given .0 .0) (omega arith)
+          (rw (c .before .k .given .1) at (did .ensures .4)),
     )
 
 add-i : tie.Need-add-i Inv-loop μ-loop
@@ -75,15 +85,17 @@ loop-again : tie.Need-loop-again Inv-loop μ-loop
 unfolding mergedOf
 loop-again c =
     let did = c .before .before .before .merge-span in
-    let loop = c .before .before .before .before .before .before .before in
+    let loop = c .before .before .before .before .before .before .before .before in
     let a = loop .before .before .before .args in
     let l = loop .loop in
     let s = a .s .now in (
       did .ensures .0,
-      rw (c .before .n .given .1) at (did .ensures .1),
+      did .ensures .1,
+      did .ensures .2,
+      rw (c .before .n .given .1) at (did .ensures .3),
       omega arith,
-      few-on s (a .spans .now) (l .i) (omega arith) (l .inv .3),
-      spans-on s (a .spans .now) (l .i) (given (glyphsIn s (l .rows) (l .count))) (mergeGlyphs (partsIn s (a .spans .now))) (l .inv .4) _ (omega arith) (rw (c .before .n .given .1) at (did .ensures .2)),
+      few-on s (a .spans .now) (l .i) (omega arith) (l .inv .5),
+      spans-on s (a .spans .now) (l .i) (given (glyphsIn s (l .rows) (l .count))) (mergeGlyphs (partsIn s (a .spans .now))) (l .inv .6) _ (omega arith) (rw (c .before .n .given .1) at (did .ensures .4)),
     )
 
 returns-2 : tie.Need-returns-2 Inv-loop μ-loop
@@ -92,7 +104,7 @@ returns-2 c =
     let a = c .before .before .before .before .args in
     let l = c .before .loop in
     let s = a .s .now in
-    (l .inv .0, l .inv .1, spans-done s (a .spans .now) (l .i) (given (glyphsIn s (l .rows) (l .count))) (mergeGlyphs (partsIn s (a .spans .now))) (l .inv .4) (omega arith))
+    (l .inv .0, l .inv .3, spans-done s (a .spans .now) (l .i) (given (glyphsIn s (l .rows) (l .count))) (mergeGlyphs (partsIn s (a .spans .now))) (l .inv .6) (omega arith))
 
 pub process-chunk-spec : {M : Type 1} → statement M
 process-chunk-spec =
@@ -101,6 +113,8 @@ process-chunk-spec =
     Inv-loop
     μ-loop
     loop-holds
+    add-stamp
+    cast-stamp
     mul-merge-span
     shared-slice-read-merge-span
     merge-span-requires

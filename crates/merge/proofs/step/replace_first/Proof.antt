@@ -2,6 +2,7 @@
 use mathlib.Core.Path.{_∙_}
 use mathlib.Core.List.{_∷_}
 use lib.ListN.{length-set}
+use borrow.Author.Tests.{eq-eqb, ne-eqb}
 use Rattle.merge.proofs.Marks.{marked-more}
 use Rattle.merge.proofs.Merges.{missing, replaced, replaces}
 use native.Mathlib.Omega.{arith}
@@ -53,7 +54,7 @@ returns-2 c =
         marked = known;
         is =
             rw (replaced s (a .rows .now) (a .count) (a .row) positions (omega arith) span (a .index) (start .pre .3) covered (place .result) (place .ensures) (omega arith)
-            (known (place .result) (omega arith) ∙ c .before .if2 .taken))
+            (known .stamped (place .result) (omega arith) ∙ eq-eqb _ (a .stamp) (c .before .if2 .taken)))
             (c .skip2 .ensures .1 s (a .rows .now) positions);
       },
     )
@@ -75,10 +76,10 @@ returns-3 c =
       c .replace .ensures .1,
       λ span positions covered known. record {
         positions = place .result ∷ positions;
-        marked = marked-more (a .marks .now) positions (place .result) (omega arith) known;
+        marked = marked-more (a .stamp) (a .marks .now) (place .result) (omega arith) positions known;
         is =
             rw (replaces s (a .rows .now) (a .count) (a .row) positions (omega arith) span (a .index) (start .pre .3) covered (place .result) (place .ensures) (omega arith)
-            (known (place .result) (omega arith) ∙ c .before .before .if2 .left))
+            (known .stamped (place .result) (omega arith) ∙ ne-eqb _ (a .stamp) (c .before .before .if2 .left)))
             (c .replace .ensures .2 positions);
       },
     )

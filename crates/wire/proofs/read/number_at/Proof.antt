@@ -1,74 +1,49 @@
--- `wire::read::number_at` meets its contract. The loop's invariant: what was read is the number that the first i bytes hold.
--- Assumes nothing.
-use Prim.Native.Nat.{_^_, _≤_, _<_, _-_}
-use mathlib.Core.Path.{_≡_, refl, sym, ap, _∙_}
-use Rattle.labels.specs.Bytes.{be}
-use Rattle.wire.proofs.Digits.{be-step, below-step, below-width}
-use borrow.Author.Needs.{needs}
+-- `wire::read::number_at` meets its contract. Assumes nothing.
+use mathlib.Core.Path.{ap, _∙_}
 use native.Mathlib.Omega.{arith}
+use Rattle.labels.specs.Bytes.{be}
+use Rattle.wire.specs.Padded.{paddedOf}
+use Rattle.wire.proofs.Digits.{be-same, padded-same}
+use borrow.Author.Needs.{needs}
 use Rattle.wire.proofs.read.number_at.Statement.{statement}
 use Rattle.wire.proofs.read.number_at.Tie as tie
 
-abbrev Inv-loop : tie.InvT-loop
-Inv-loop s at width row n₀ i₀ n i = (i ≤ width) × (n ≡ be i row) × (n < 256 ^ i)
-
-abbrev μ-loop : tie.MeasureT-loop
-μ-loop s at width row n₀ i₀ n i = width - i
-
-from-requires : tie.Need-from-requires Inv-loop μ-loop
+from-requires : tie.Need-from-requires
 from-requires c κs = search needs
 
-loop-holds : tie.Need-loop-holds Inv-loop μ-loop
-unfolding be
-loop-holds c = (omega arith, refl, omega arith)
+number-of-requires : tie.Need-number-of-requires
+number-of-requires c κs = search needs
 
-mul-n : tie.Need-mul-n Inv-loop μ-loop
-mul-n c = let l = c .before .loop in omega (arith, below-width (l .n) (l .i) 7 (l .inv .2) (omega arith))
+returns : tie.Need-returns
+returns c = (c .number-of .ensures .0 ∙ ap (be (c .before .before .before .before .args .width)) (c .before .before .from .ensures), c .number-of .ensures .1)
 
-byte-at-requires : tie.Need-byte-at-requires Inv-loop μ-loop
-byte-at-requires c κs = search needs
+padded-requires : tie.Need-padded-requires
+padded-requires c κs = search needs
 
-wide-requires : tie.Need-wide-requires Inv-loop μ-loop
-wide-requires c κs = search needs
+slice-aggregate-number-of : tie.Need-slice-aggregate-number-of
+slice-aggregate-number-of c = search needs
 
-add-n : tie.Need-add-n Inv-loop μ-loop
-add-n c = let l = c .before .before .before .loop in omega (arith, below-width (l .n) (l .i) 7 (l .inv .2) (omega arith))
+number-of-requires-2 : tie.Need-number-of-requires-2
+number-of-requires-2 c κs = search needs
 
-add-i : tie.Need-add-i Inv-loop μ-loop
-add-i c = search needs
-
-loop-less : tie.Need-loop-less Inv-loop μ-loop
-loop-less c = search needs
-
-loop-again : tie.Need-loop-again Inv-loop μ-loop
-loop-again c =
-    let l = c .before .before .before .loop in
-    let row = c .before .before .before .before .from .result .now in (
-      omega arith,
-      (rw (c .wide .ensures .0, c .before .byte-at .ensures, l .inv .1) (sym (be-step row (l .i)))),
-      below-step (l .n) (c .wide .result) (l .i) (l .inv .2) (omega arith),
+returns-2 : tie.Need-returns-2
+returns-2 c =
+    let width = c .before .before .before .before .before .before .args .width in
+    let bytes = c .before .before .padded in
+    let row = c .before .before .before .before .from in (
+      c .number-of2 .ensures .0 ∙ ap (be width) (bytes .ensures) ∙ be-same width (paddedOf (row .result .now)) (row .result .now) (λ i h. padded-same (row .result .now) i (omega arith))
+          ∙ ap (be width) (row .ensures),
+      c .number-of2 .ensures .1,
     )
-
-returns : tie.Need-returns Inv-loop μ-loop
-returns c =
-    let a = c .before .before .before .before .args in
-    let l = c .before .loop in
-    let e : l .i ≡ a .width = omega arith in
-    ((rw e at (l .inv .1)) ∙ ap (be (a .width)) (c .before .before .from .ensures), (rw e at (l .inv .2)))
 
 pub number-at-spec : {M : Type 1} → statement M
 number-at-spec =
     tie.close
     (tie.spec
-    Inv-loop
-    μ-loop
     from-requires
-    loop-holds
-    mul-n
-    byte-at-requires
-    wide-requires
-    add-n
-    add-i
-    loop-less
-    loop-again
-    returns)
+    number-of-requires
+    returns
+    padded-requires
+    slice-aggregate-number-of
+    number-of-requires-2
+    returns-2)

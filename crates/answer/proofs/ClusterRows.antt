@@ -1,0 +1,144 @@
+-- A cluster's row: its glyphs, its parts, how long it is; and rows put one after the other. Assumes nothing.
+use Prim.Native.Nat.{ℕ, zero, suc, _+_, _-_, _≤_, _<_, min}
+use mathlib.Core.Path.{_≡_, refl, sym, ap, ap₂, _∙_}
+use mathlib.Core.Bool.{true}
+use mathlib.Core.List.{List, [], _∷_, _++_, map, flatMap, append-assoc}
+use native.Mathlib.Nat.{le-refl}
+use native.Mathlib.Numerals.{add-one}
+use native.Mathlib.Omega.{arith}
+use lib.Ieee.{Float}
+use lib.ListN.{length, getD, take, drop, length-append, length-map, length-take, length-drop, drop-of-length-le}
+use lib.Seq.{drop-cons, take-all}
+use Rattle.labels.specs.declared.Glyph.{Glyph}
+use Rattle.labels.specs.declared.Cluster.{Cluster}
+use Rattle.labels.specs.Single.{+0}
+use Rattle.labels.specs.Answer.{ClusterRow, glyphRowBytes, clusterRowBytes, clusterRowLength, clusterRowSize, sum}
+use Rattle.labels.specs.Layout.{glyphRows, glyphsOf, clusterRow}
+use Rattle.laws.proofs.Numbers.{length-bytes}
+use Rattle.laws.proofs.AnswerLength.{length-floats, length-clusterRow, length-flatMap}
+use Rattle.lookup.specs.Rows.{glyphsIn}
+use Rattle.lookup.proofs.Rows.{map-in}
+use Rattle.clusters.specs.Clusters.{clusterOf, clustersOf}
+use Rattle.clusters.proofs.Rows.{clusters-length, clusters-at}
+use Rattle.forming.proofs.Passing.{all-take, all-drop}
+use Rattle.forming.proofs.Glyphs.{map-take, glyphs-length}
+use Rattle.wire.specs.Splice.{splice}
+use Rattle.answer.specs.Glyphs.{unitsIn}
+use Rattle.answer.specs.Clusters.{clusterHeadBytes, clusterSize, clustersSize}
+use Rattle.answer.proofs.GlyphsLeft.{count-glyphRows}
+use Rattle.answer.proofs.Puts.{RowsLeft, row-room, row-turn, row-done}
+
+-- ---- a sum, term by term
+
+module _ {A : Type 0} (size : A → ℕ) (xs : List A) where
+  pub sum-next : (i : ℕ) (d : A) → i < length xs → sum (map size (drop i xs)) ≡ size (getD xs i d) + sum (map size (drop (i + 1) xs))
+  sum-next i d h = rw (add-one, drop-cons xs i d h)
+
+  pub sum-end : (i : ℕ) → length xs ≤ i → sum (map size (drop i xs)) ≡ 0
+  sum-end i h = rw (drop-of-length-le xs h)
+
+-- ---- the glyphs at some of the places are some of the glyphs
+
+map-drop : {A B : Type 0} (f : A → B) (n : ℕ) (l : List A) → drop n (map f l) ≡ map f (drop n l)
+map-drop f zero l = refl
+map-drop f (suc n) [] = refl
+map-drop f (suc n) (x ∷ l) = map-drop f n l
+
+module _ (s rows : List ℕ) (count : ℕ) (places : List ℕ) (c : Cluster) (e : places ≡ take (c .count) (drop (c .from) (take count rows))) where
+  pub places-glyphs : glyphsIn s places (length places) ≡ glyphsOf (glyphsIn s rows count) c
+  unfolding glyphsIn
+  places-glyphs = rw (take-all (length places) places (le-refl _), e, map-drop, map-take)
+
+  pub places-length : length places ≡ length (glyphsOf (glyphsIn s rows count) c)
+  places-length = sym (glyphs-length s places (length places) (le-refl _)) ∙ ap length places-glyphs
+
+  pub places-ok : unitsIn (glyphsIn s rows count) ≡ true → unitsIn (glyphsIn s places (length places)) ≡ true
+  places-ok h = rw places-glyphs (all-take _ (c .count) _ (all-drop _ (c .from) _ h))
+
+  -- the row is what stands before the glyphs, and the glyphs
+  pub row-parts : (mode : ℕ)
+      → clusterRowBytes (clusterRow mode (glyphsIn s rows count) c) ≡ clusterHeadBytes mode c (length places) ++ flatMap glyphRowBytes (glyphRows +0 (glyphsIn s places (length places)))
+  unfolding clusterRowBytes clusterRow clusterHeadBytes
+  row-parts mode = rw (places-glyphs, places-length, count-glyphRows +0 (glyphsOf (glyphsIn s rows count) c)) (simp append-assoc)
+
+pub length-head : (mode : ℕ) (c : Cluster) (glyphs : ℕ) → length (clusterHeadBytes mode c glyphs) ≡ clusterRowSize 0
+unfolding clusterHeadBytes
+length-head mode c glyphs = simp (length-append, length-bytes, length-floats) (omega arith)
+
+-- ---- how long it is
+
+module _ (mode : ℕ) (gs : List Glyph) where
+  pub row-length : (c : Cluster) → clusterRowLength (clusterRow mode gs c) ≡ clusterRowSize (length (glyphsOf gs c))
+  unfolding clusterRow
+  row-length c = ap clusterRowSize (count-glyphRows +0 (glyphsOf gs c))
+
+  module _ (count : ℕ) (e : length gs ≡ count) where
+    pub row-size : (c : Cluster) → clusterRowLength (clusterRow mode gs c) ≡ clusterSize count c
+    unfolding clusterSize
+    row-size c =
+        row-length c ∙ ap clusterRowSize (length-take (c .count) (drop (c .from) gs) ∙ ap (min (c .count)) (length-drop (c .from) gs ∙ ap (λ (n : ℕ). n - c .from) e))
+
+    pub rows-size : (cs : List Cluster) → sum (map clusterRowLength (map (clusterRow mode gs) cs)) ≡ clustersSize count cs
+    unfolding clustersSize
+    rows-size [] = refl
+    rows-size (c ∷ cs) = ap₂ _+_ (row-size c) (rows-size cs)
+
+    pub length-rows : (cs : List Cluster) → length (flatMap clusterRowBytes (map (clusterRow mode gs) cs)) ≡ clustersSize count cs
+    length-rows cs = length-flatMap clusterRowBytes clusterRowLength length-clusterRow (map (clusterRow mode gs) cs) ∙ rows-size cs
+
+-- ---- the sizes of the stored clusters' rows, of which those from place i on are left
+
+module _ (count : ℕ) (floats : List (List Float)) (words : List (List ℕ)) (n : ℕ) where
+  -- with what is added up so far
+  abbrev pub sizeFrom : ℕ → ℕ → ℕ
+  sizeFrom size i = size + sum (map (clusterSize count) (drop i (clustersOf floats words n)))
+
+  pub size-start : sizeFrom 0 0 ≡ clustersSize count (clustersOf floats words n)
+  unfolding clustersSize
+  size-start = omega arith
+
+  pub size-turn : n ≤ length floats → n ≤ length words → (size i k : ℕ) (c : Cluster) → c ≡ clusterOf (getD floats i []) (getD words i []) → i < n → k ≡ clusterSize count c → sizeFrom (size + k) (i + 1) ≡ sizeFrom size i
+  size-turn p q size i k c ec h ek =
+      let cs = clustersOf floats words n in
+      let e : getD cs i c ≡ c = clusters-at floats words n i c h p q ∙ sym ec in
+      let next = rw e at (sum-next (clusterSize count) cs i c (rw (clusters-length floats words n p q) h)) in
+      omega arith
+
+  pub size-end : n ≤ length floats → n ≤ length words → (size i : ℕ) → n ≤ i → sizeFrom size i ≡ size
+  size-end p q size i h = rw (sum-end (clusterSize count) (clustersOf floats words n) i (rw (clusters-length floats words n p q) h)) (omega arith)
+
+-- ---- the rows of the stored clusters, of which those from place i on are left
+
+module _ (mode : ℕ) (gs : List Glyph) (floats : List (List Float)) (words : List (List ℕ)) (n : ℕ) where
+  abbrev rowsOf : List ClusterRow
+  rowsOf = map (clusterRow mode gs) (clustersOf floats words n)
+
+  abbrev pub ClustersLeft : List ℕ → ℕ → List ℕ → ℕ → ℕ → Type 0
+  ClustersLeft old at out here i = RowsLeft clusterRowBytes rowsOf old at out here i
+
+  module _ (p : n ≤ length floats) (q : n ≤ length words) where
+    count-rows : length rowsOf ≡ n
+    count-rows = length-map (clustersOf floats words n) (clusterRow mode gs) ∙ clusters-length floats words n p q
+
+    module _ {old : List ℕ} {at : ℕ} {out : List ℕ} {here : ℕ} (i : ℕ) (left : ClustersLeft old at out here i) where
+      module _ (c : Cluster) (ec : c ≡ clusterOf (getD floats i []) (getD words i [])) (h : i < n) where
+        before-end : i < length rowsOf
+        before-end = rw count-rows h
+
+        is-row : getD rowsOf i (clusterRow mode gs c) ≡ clusterRow mode gs c
+        is-row =
+            map-in (clusterRow mode gs) (clustersOf floats words n) i c (clusterRow mode gs c) (rw (clusters-length floats words n p q) h)
+            ∙ ap (clusterRow mode gs) (clusters-at floats words n i c h p q ∙ sym ec)
+
+        pub cluster-room : here + clusterRowLength (clusterRow mode gs c) ≤ length out
+        cluster-room =
+            let room : here + length (clusterRowBytes (clusterRow mode gs c)) ≤ length out = rw is-row at (row-room clusterRowBytes rowsOf i left (clusterRow mode gs c) before-end) in
+            omega (arith, length-clusterRow (clusterRow mode gs c))
+
+        pub cluster-turn : {out′ : List ℕ} {here′ : ℕ} → out′ ≡ splice out here (clusterRowBytes (clusterRow mode gs c)) → here′ ≡ here + clusterRowLength (clusterRow mode gs c)
+            → ClustersLeft old at out′ here′ (i + 1)
+        cluster-turn eo eh =
+            row-turn clusterRowBytes rowsOf i left (clusterRow mode gs c) before-end (rw is-row eo) (rw (is-row, length-clusterRow) eh)
+
+      pub clusters-done : n ≤ i → (out ≡ splice old at (flatMap clusterRowBytes rowsOf)) × (here ≡ at + length (flatMap clusterRowBytes rowsOf))
+      clusters-done h = row-done clusterRowBytes rowsOf i left (rw count-rows h)

@@ -1,0 +1,79 @@
+-- Glyph rows put one after the other: the next one, and the end. Assumes nothing.
+use Prim.Native.Nat.{ℕ, suc, _+_, _*_, _≤_, _<_}
+use mathlib.Core.Path.{_≡_, refl, ap, _∙_}
+use mathlib.Core.Bool.{true, _&&_}
+use mathlib.Core.List.{List, [], _∷_, _++_, flatMap}
+use native.Mathlib.Omega.{arith}
+use lib.ListN.{length, getD, drop}
+use lib.Ieee.{Float, binary32, ofInt}
+use Rattle.labels.specs.declared.Glyph.{Glyph}
+use Rattle.labels.specs.Single.{_+ᶠ_, +0}
+use Rattle.labels.specs.Check.{unitsOk}
+use Rattle.labels.specs.Decode.{glyphOf}
+use Rattle.labels.specs.Answer.{glyphRowBytes, glyphRowSize}
+use Rattle.labels.specs.Layout.{glyphRows}
+use Rattle.laws.proofs.All.{and-left, and-right}
+use Rattle.laws.proofs.AnswerLength.{length-glyphRow, length-equal}
+use Rattle.lookup.specs.Rows.{glyphsIn}
+use Rattle.forming.proofs.Glyphs.{glyph-next}
+use Rattle.forming.proofs.Passing.{all-first, all-rest}
+use Rattle.wire.specs.Splice.{splice}
+use Rattle.answer.specs.Glyphs.{glyphRow, unitsIn}
+use Rattle.answer.proofs.Puts.{Putting, put-room, put-turn, put-done}
+
+-- ---- the next glyph's distances are within their bounds, and those behind it
+
+module _ {gs rest : List Glyph} {g : Glyph} (e : gs ≡ g ∷ rest) (h : unitsIn gs ≡ true) where
+  first-ok : (unitsOk (g .dx) && (unitsOk (g .dy) && unitsOk (g .width))) ≡ true
+  first-ok = all-first (λ (g : Glyph). unitsOk (g .dx) && (unitsOk (g .dy) && unitsOk (g .width))) e h
+
+  pub dx-ok : unitsOk (g .dx) ≡ true
+  dx-ok = and-left (unitsOk (g .dx)) _ first-ok
+
+  pub dy-ok : unitsOk (g .dy) ≡ true
+  dy-ok = and-left (unitsOk (g .dy)) _ (and-right (unitsOk (g .dx)) _ first-ok)
+
+  pub width-ok : unitsOk (g .width) ≡ true
+  width-ok = and-right (unitsOk (g .dy)) _ (and-right (unitsOk (g .dx)) _ first-ok)
+
+  pub rest-ok : unitsIn rest ≡ true
+  rest-ok = all-rest (λ (g : Glyph). unitsOk (g .dx) && (unitsOk (g .dy) && unitsOk (g .width))) e h
+
+-- ---- the glyph that is read at place i is the next
+
+pub glyph-here : (s places : List ℕ) (n i at : ℕ) {g : Glyph} → g ≡ glyphOf (drop at s) → at ≡ getD places i 0 → i < n → n ≤ length places
+    → drop i (glyphsIn s places n) ≡ g ∷ drop (i + 1) (glyphsIn s places n)
+glyph-here s places n i at e f h k = rw (e, f) (glyph-next s places n i h k)
+
+-- ---- how long they are
+
+pub count-glyphRows : (x : Float) (gs : List Glyph) → length (glyphRows x gs) ≡ length gs
+unfolding glyphRows
+count-glyphRows x [] = refl
+count-glyphRows x (g ∷ gs) = ap suc (count-glyphRows (x +ᶠ ofInt binary32 (g .width)) gs)
+
+pub length-glyphRows : (x : Float) (gs : List Glyph) → length (flatMap glyphRowBytes (glyphRows x gs)) ≡ glyphRowSize * length gs
+length-glyphRows x gs = length-equal glyphRowBytes glyphRowSize length-glyphRow (glyphRows x gs) ∙ ap (λ (n : ℕ). glyphRowSize * n) (count-glyphRows x gs)
+
+-- ---- `left` are still to be put, and the widths before them add up to x
+
+module _ (gs : List Glyph) where
+  abbrev pub GlyphsLeft : List ℕ → ℕ → List ℕ → ℕ → Float → List Glyph → Type 0
+  GlyphsLeft old at out here x left = Putting old at (flatMap glyphRowBytes (glyphRows +0 gs)) out here (flatMap glyphRowBytes (glyphRows x left))
+
+  module _ {old : List ℕ} {at : ℕ} {out : List ℕ} {here : ℕ} (x : Float) {left rest : List Glyph} {g : Glyph} (e : left ≡ g ∷ rest) (p : GlyphsLeft old at out here x left) where
+    next : flatMap glyphRowBytes (glyphRows x left) ≡ glyphRowBytes (glyphRow x g) ++ flatMap glyphRowBytes (glyphRows (x +ᶠ ofInt binary32 (g .width)) rest)
+    unfolding flatMap glyphRows
+    next = rw e
+
+    pub glyph-room : here + glyphRowSize ≤ length out
+    glyph-room = omega (arith, length-glyphRow (glyphRow x g), put-room p (glyphRowBytes (glyphRow x g)) _ next)
+
+    pub glyph-turn : (w : Float) {out′ : List ℕ} {here′ : ℕ} → out′ ≡ splice out here (glyphRowBytes (glyphRow x g)) → w ≡ ofInt binary32 (g .width) → here′ ≡ here + glyphRowSize
+        → GlyphsLeft old at out′ here′ (x +ᶠ w) rest
+    glyph-turn w eo ew eh = rw ew (put-turn p (glyphRowBytes (glyphRow x g)) _ next eo (omega (arith, length-glyphRow (glyphRow x g))))
+
+  pub glyphs-done : {old : List ℕ} {at : ℕ} {out : List ℕ} {here : ℕ} (x : Float) {left : List Glyph} → left ≡ [] → GlyphsLeft old at out here x left
+      → out ≡ splice old at (flatMap glyphRowBytes (glyphRows +0 gs))
+  unfolding flatMap glyphRows
+  glyphs-done x e p = put-done p (rw e) .0

@@ -1,0 +1,162 @@
+-- A span row from its parts; the rows of a list of spans, span by span. Assumes nothing.
+use Prim.Native.Nat.{ℕ, suc, _+_, _*_, _≤_, _<_}
+use mathlib.Core.Path.{_≡_, refl, sym, ap, _∙_}
+use mathlib.Core.Bool.{Bool, true, false, cond}
+use mathlib.Core.List.{List, [], _∷_, _++_, map, flatMap, append-nil, append-assoc}
+use native.Mathlib.Omega.{arith}
+use lib.Ieee.{Float}
+use native.Mathlib.Numerals.{add-one}
+use lib.Dec.{eqb}
+use lib.ListN.{length, getD, drop, length-append, length-map, drop-of-length-le}
+use lib.Seq.{drop-cons}
+use borrow.Author.Tests.{not-true, not-false}
+use Rattle.labels.specs.declared.Run.{Run}
+use Rattle.labels.specs.declared.Span.{Span}
+use Rattle.labels.specs.declared.Point.{Point}
+use Rattle.labels.specs.declared.Cluster.{Cluster}
+use Rattle.labels.specs.Job.{Job, SpanParts, noFont}
+use Rattle.labels.specs.Decode.{spanOf, partsOf}
+use Rattle.labels.specs.Decoration.{collectDecorationSpans}
+use Rattle.labels.specs.Layout.{spanRow, spanRows}
+use Rattle.labels.specs.Answer.{SpanRow, runBytes, spanRowBytes, spanRowLength, sum}
+use Rattle.laws.proofs.Numbers.{length-bytes}
+use Rattle.laws.proofs.AnswerLength.{length-flatMap, length-floats, length-spanRow}
+use Rattle.wire.specs.Splice.{splice}
+use Rattle.wire.proofs.Splice.{splice-then}
+use Rattle.lookup.specs.Rows.{partsIn}
+use Rattle.lookup.proofs.Rows.{map-in}
+use Rattle.decoration.specs.Runs.{runsIn}
+use Rattle.answer.specs.Spans.{jobWith, rowFloats, spanHeadBytes, hasRow}
+use Rattle.answer.proofs.RunRows.{length-runs, runs-count}
+
+-- ---- a row: what comes before its runs, and the runs
+
+row-bytes : (row : SpanRow) → spanHeadBytes (row .index) (rowFloats row) (length (row .runs)) ++ flatMap runBytes (row .runs) ≡ spanRowBytes row
+unfolding spanRowBytes
+row-bytes row = simp append-assoc
+
+pub row-put : (out : List ℕ) (at : ℕ) (row : SpanRow) {out₁ out₂ : List ℕ} {values : List Float} {runs : List Run} {n behind : ℕ}
+    → values ≡ rowFloats row → runs ≡ row .runs → length (row .runs) ≡ n → behind ≡ at + 31
+    → out₁ ≡ splice out at (spanHeadBytes (row .index) values n) → out₂ ≡ splice out₁ behind (flatMap runBytes runs)
+    → at + spanRowLength row ≤ length out → out₂ ≡ splice out at (spanRowBytes row)
+row-put out at row ev er en eb e₁ e₂ room =
+    let head = spanHeadBytes (row .index) (rowFloats row) (length (row .runs)) in
+    let rest = flatMap runBytes (row .runs) in
+    let l : length head ≡ 31 = simp (length-append, length-bytes, length-floats) in
+    let m : length rest ≡ 6 * length (row .runs) = length-runs (row .runs) in
+    splice-then out at head _ rest (rw (ev, ← en) at e₁) (rw er at e₂) (omega arith) (omega arith) ∙ ap (splice out at) (row-bytes row)
+
+-- the runs that were collected are the row's: as many as were counted, and the two lists have them all
+pub row-runs : (j : Job) (origin : Point) (cs : List Cluster) (k : ℕ) (s : List ℕ) (place : ℕ) (firsts : List ℕ) (widths : List Float) (r : ℕ) {span : Span} {n f w : ℕ}
+    → span ≡ spanOf (drop place s) → (r ≤ n) × (runsIn firsts widths r ≡ collectDecorationSpans span cs) → n ≤ f → length firsts ≡ f → n ≤ w → length widths ≡ w
+    → let runs = spanRow j origin cs k (partsOf (drop place s)) .runs in (r ≤ length firsts) × (r ≤ length widths) × (length runs ≡ r) × (runsIn firsts widths r ≡ runs)
+unfolding spanRow partsOf
+row-runs j origin cs k s place firsts widths r es h f ef w ew =
+    let p : r ≤ length firsts = omega (arith, h .0) in
+    let q : r ≤ length widths = omega (arith, h .0) in
+    let e : runsIn firsts widths r ≡ collectDecorationSpans (spanOf (drop place s)) cs = rw (h .1, es) refl in
+    (p, q, ap length (sym e) ∙ runs-count firsts widths r p q, e)
+
+-- ---- rows one after the other
+
+module _ {A : Type 0} where
+  flatMap-append : {B : Type 0} (f : A → List B) (xs ys : List A) → flatMap f (xs ++ ys) ≡ flatMap f xs ++ flatMap f ys
+  unfolding flatMap
+  flatMap-append f [] ys = refl
+  flatMap-append f (x ∷ xs) ys = ap (λ l. f x ++ l) (flatMap-append f xs ys) ∙ sym (append-assoc (f x) (flatMap f xs) (flatMap f ys))
+
+  sum-append : (size : A → ℕ) (xs ys : List A) → sum (map size (xs ++ ys)) ≡ sum (map size xs) + sum (map size ys)
+  sum-append size [] ys = omega arith
+  sum-append size (x ∷ xs) ys = let e = sum-append size xs ys in omega (arith, e)
+
+pub length-rows : (rows : List SpanRow) → length (flatMap spanRowBytes rows) ≡ sum (map spanRowLength rows)
+length-rows = length-flatMap spanRowBytes spanRowLength length-spanRow
+
+-- ---- the rows of spans
+
+-- what a row is made of looks at the mode and the fonts alone
+pub rows-of-job : (j : Job) (origin : Point) (cs : List Cluster) (k : ℕ) (ps : List SpanParts) → spanRows (jobWith (j .mode) (j .fonts)) origin cs k ps ≡ spanRows j origin cs k ps
+unfolding spanRows spanRow
+rows-of-job j origin cs k [] = refl
+rows-of-job j origin cs k (p ∷ ps) = rw (rows-of-job j origin cs (k + 1) ps)
+
+module _ (j : Job) (origin : Point) (cs : List Cluster) where
+  pub one-row : (k : ℕ) (p : SpanParts) → hasRow p ≡ true → spanRows j origin cs k (p ∷ []) ≡ spanRow j origin cs k p ∷ []
+  unfolding spanRows
+  one-row k p h = rw (not-true (eqb (p .span .font) noFont) h)
+
+  pub no-row : (k : ℕ) (p : SpanParts) → hasRow p ≡ false → spanRows j origin cs k (p ∷ []) ≡ []
+  unfolding spanRows
+  no-row k p h = rw (not-false (eqb (p .span .font) noFont) h)
+
+  pub one-bytes : (k : ℕ) (p : SpanParts) → hasRow p ≡ true → flatMap spanRowBytes (spanRows j origin cs k (p ∷ [])) ≡ spanRowBytes (spanRow j origin cs k p)
+  unfolding flatMap
+  one-bytes k p h = rw (one-row k p h) (append-nil (spanRowBytes (spanRow j origin cs k p)))
+
+  pub one-sum : (k : ℕ) (p : SpanParts) → hasRow p ≡ true → sum (map spanRowLength (spanRows j origin cs k (p ∷ []))) ≡ spanRowLength (spanRow j origin cs k p)
+  one-sum k p h = rw (one-row k p h) (omega arith)
+
+  pub no-bytes : (k : ℕ) (p : SpanParts) → hasRow p ≡ false → flatMap spanRowBytes (spanRows j origin cs k (p ∷ [])) ≡ []
+  unfolding flatMap
+  no-bytes k p h = rw (no-row k p h)
+
+  pub no-sum : (k : ℕ) (p : SpanParts) → hasRow p ≡ false → sum (map spanRowLength (spanRows j origin cs k (p ∷ []))) ≡ 0
+  no-sum k p h = rw (no-row k p h)
+
+  -- those of the first span, and those of the others
+  rows-split : (k : ℕ) (p : SpanParts) (ps : List SpanParts) → spanRows j origin cs k (p ∷ ps) ≡ spanRows j origin cs k (p ∷ []) ++ spanRows j origin cs (k + 1) ps
+  unfolding spanRows
+  rows-split k p ps = go (eqb (p .span .font) noFont)
+    where
+      go : (b : Bool) → cond b (spanRows j origin cs (k + 1) ps) (spanRow j origin cs k p ∷ spanRows j origin cs (k + 1) ps)
+          ≡ cond b [] (spanRow j origin cs k p ∷ []) ++ spanRows j origin cs (k + 1) ps
+      go true = refl
+      go false = refl
+
+  -- a walk over the spans stands at place i
+  module _ (s places : List ℕ) where
+    abbrev pub rowsFrom : ℕ → List SpanRow
+    rowsFrom i = spanRows j origin cs i (drop i (partsIn s places))
+
+    abbrev pub rowsAt : ℕ → List SpanRow
+    rowsAt i = spanRows j origin cs i (partsOf (drop (getD places i 0) s) ∷ [])
+
+    abbrev read : ℕ → SpanParts
+    read at = partsOf (drop at s)
+
+    rows-turn : (i : ℕ) → i < length places → rowsFrom i ≡ rowsAt i ++ rowsFrom (i + 1)
+    unfolding partsIn
+    rows-turn i h =
+        let l : i < length (map read places) = rw (length-map places read) h in
+        rw (drop-cons (map read places) i (read 0) l, map-in read places i 0 (read 0) h, add-one i)
+        (rw (add-one i) at (rows-split i (read (getD places i 0)) (drop (suc i) (map read places))))
+
+    rows-done : (i : ℕ) → length places ≤ i → rowsFrom i ≡ []
+    unfolding partsIn spanRows
+    rows-done i h = rw (drop-of-length-le (map read places) {i = i} (rw (length-map places read) h))
+
+    pub bytes-turn : (i : ℕ) → i < length places → flatMap spanRowBytes (rowsFrom i) ≡ flatMap spanRowBytes (rowsAt i) ++ flatMap spanRowBytes (rowsFrom (i + 1))
+    bytes-turn i h = ap (flatMap spanRowBytes) (rows-turn i h) ∙ flatMap-append spanRowBytes (rowsAt i) (rowsFrom (i + 1))
+
+    pub bytes-done : (i : ℕ) → length places ≤ i → flatMap spanRowBytes (rowsFrom i) ≡ []
+    unfolding flatMap
+    bytes-done i h = rw (rows-done i h)
+
+    -- how many rows, and how many bytes: what is counted, and what is still to come
+    pub count-turn : (done i : ℕ) {r : ℕ} → i < length places → r ≡ length (rowsAt i) → done + r + length (rowsFrom (i + 1)) ≡ done + length (rowsFrom i)
+    count-turn done i h e =
+        let f : length (rowsFrom i) ≡ length (rowsAt i) + length (rowsFrom (i + 1)) = ap length (rows-turn i h) ∙ length-append (rowsAt i) (rowsFrom (i + 1)) in
+        omega arith
+
+    pub count-done : (done i : ℕ) → length places ≤ i → done ≡ done + length (rowsFrom i)
+    count-done done i h = rw (rows-done i h) (omega arith)
+
+    pub sum-turn : (done i : ℕ) {r : ℕ} → i < length places → r ≡ sum (map spanRowLength (rowsAt i))
+        → done + r + sum (map spanRowLength (rowsFrom (i + 1))) ≡ done + sum (map spanRowLength (rowsFrom i))
+    sum-turn done i h e =
+        let f : sum (map spanRowLength (rowsFrom i)) ≡ sum (map spanRowLength (rowsAt i)) + sum (map spanRowLength (rowsFrom (i + 1))) =
+        ap (λ (rows : List SpanRow). sum (map spanRowLength rows)) (rows-turn i h) ∙ sum-append spanRowLength (rowsAt i) (rowsFrom (i + 1)) in
+        omega arith
+
+    pub sum-done : (done i : ℕ) → length places ≤ i → done ≡ done + sum (map spanRowLength (rowsFrom i))
+    sum-done done i h = rw (rows-done i h) (omega arith)

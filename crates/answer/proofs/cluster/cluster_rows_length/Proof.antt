@@ -1,0 +1,74 @@
+-- `answer::cluster::cluster_rows_length` meets its contract. Assumes nothing.
+use Prim.Native.Nat.{_*_, _-_, _≤_}
+use mathlib.Core.Path.{_≡_, sym, _∙_}
+use native.Mathlib.Omega.{arith}
+use Rattle.labels.specs.Answer.{clusterRowSize}
+use Rattle.clusters.specs.Clusters.{clustersOf}
+use Rattle.answer.specs.Clusters.{clustersSize}
+use Rattle.answer.proofs.ClusterRows.{sizeFrom, size-start, size-turn, size-end}
+use Rattle.answer.proofs.Most.{clusters-most}
+use borrow.Author.Needs.{needs}
+use Rattle.answer.proofs.cluster.cluster_rows_length.Statement.{statement}
+use Rattle.answer.proofs.cluster.cluster_rows_length.Tie as tie
+
+abbrev Inv-loop : tie.InvT-loop
+Inv-loop count floats words n size₀ i₀ size i =
+    (i ≤ n) × (size ≤ i * clusterRowSize count) × (sizeFrom count floats words n size i ≡ clustersSize count (clustersOf floats words n))
+
+abbrev μ-loop : tie.MeasureT-loop
+μ-loop count floats words n size₀ i₀ size i = n - i
+
+loop-holds : tie.Need-loop-holds Inv-loop μ-loop
+loop-holds c =
+    let a = c .args in
+    (omega arith, omega arith, size-start (a .count) (a .floats .now) (a .words .now) (a .n))
+
+cluster-at-requires : tie.Need-cluster-at-requires Inv-loop μ-loop
+cluster-at-requires c κs = search needs
+
+cluster-row-length-requires : tie.Need-cluster-row-length-requires Inv-loop μ-loop
+cluster-row-length-requires c κs = search needs
+
+add-size : tie.Need-add-size Inv-loop μ-loop
+add-size c =
+    let l = c .before .before .before .loop in
+    let a = c .before .before .before .before .args in
+    omega (arith, clusters-most (l .i) 65536 (a .count) 65536 (omega arith) (omega arith))
+
+add-i : tie.Need-add-i Inv-loop μ-loop
+add-i c = search needs
+
+loop-less : tie.Need-loop-less Inv-loop μ-loop
+loop-less c = search needs
+
+loop-again : tie.Need-loop-again Inv-loop μ-loop
+loop-again c =
+    let read = c .before in
+    let l = read .before .before .loop in
+    let a = read .before .before .before .args in (
+      omega arith,
+      omega arith,
+      size-turn (a .count) (a .floats .now) (a .words .now) (a .n) (omega arith) (omega arith) (l .size) (l .i) (c .cluster-row-length .result) (read .cluster-at .result) (read .cluster-at .ensures) (omega arith) (c .cluster-row-length .ensures .0)
+          ∙ l .inv .2,
+    )
+
+returns : tie.Need-returns Inv-loop μ-loop
+returns c =
+    let l = c .before .loop in
+    let a = c .before .before .args in
+    (sym (size-end (a .count) (a .floats .now) (a .words .now) (a .n) (omega arith) (omega arith) (l .size) (l .i) (omega arith)) ∙ l .inv .2, omega (arith, clusters-most (l .i) (a .n) (a .count) (a .count) (l .inv .0) (omega arith)))
+
+pub cluster-rows-length-spec : {M : Type 1} → statement M
+cluster-rows-length-spec =
+    tie.close
+    (tie.spec
+    Inv-loop
+    μ-loop
+    loop-holds
+    cluster-at-requires
+    cluster-row-length-requires
+    add-size
+    add-i
+    loop-less
+    loop-again
+    returns)

@@ -1,0 +1,4 @@
+pub mod Glyphs
+pub mod Clusters
+pub mod Spans
+pub mod Chunks

@@ -1,0 +1,26 @@
+-- What a span row is made of. Definitions only.
+use Prim.Native.Nat.{ℕ}
+use mathlib.Core.Bool.{Bool, not}
+use mathlib.Core.List.{List, [], _∷_, _++_, flatMap}
+use lib.Dec.{eqb}
+use lib.Ieee.{Float}
+use Rattle.labels.specs.declared.Font.{Font}
+use Rattle.labels.specs.Bytes.{bytes, floatBytes}
+use Rattle.labels.specs.Job.{Job, SpanParts, noFont}
+use Rattle.labels.specs.Answer.{SpanRow}
+
+-- a job of that writing mode and those fonts, with no lists and no chunks: a span row looks at nothing else of its job
+abbrev pub jobWith : ℕ → List Font → Job
+jobWith mode fonts = record { mode = mode; fonts = fonts; dx = []; dy = []; rotate = []; chunks = [] }
+
+-- a row's floats, as they are written
+abbrev pub rowFloats : SpanRow → List Float
+rowFloats s = s .x ∷ s .y ∷ s .baseline ∷ s .thickness ∷ s .under ∷ s .over ∷ s .through ∷ []
+
+-- what comes before a row's runs: the index, the floats, and how many runs there are
+abbrev pub spanHeadBytes : ℕ → List Float → ℕ → List ℕ
+spanHeadBytes k values runs = bytes 1 k ++ (flatMap floatBytes values ++ bytes 2 runs)
+
+-- the span has a row
+abbrev pub hasRow : SpanParts → Bool
+hasRow p = not (eqb (p .span .font) noFont)

@@ -1,0 +1,137 @@
+// Cluster rows, each with its glyphs' rows.
+use crate::flags::flags_of;
+use crate::floats::put_floats;
+use crate::glyphs::glyph_places;
+use crate::glyphs::put_glyphs;
+use crate::sizes::CLUSTER_FLAGS_AT;
+use crate::sizes::CLUSTER_FLOATS_AT;
+use crate::sizes::CLUSTER_INDEX_BYTES;
+use crate::sizes::CLUSTER_ROW_BYTES;
+use crate::sizes::GLYPH_COUNT_AT;
+use crate::sizes::GLYPH_COUNT_BYTES;
+use crate::sizes::GLYPH_ROW_BYTES;
+use clusters::cluster_at;
+use clusters::floats_of;
+use labels::Cluster;
+use wire::write::put_number;
+use wire::write::put_u8;
+ghost use mathlib.Core.Path.{_≡_};
+ghost use mathlib.Core.Bool.{true};
+ghost use mathlib.Core.List.{map, flatMap};
+ghost use Prim.Native.Nat.{_+_, _*_, _≤_};
+ghost use lib.ListN.{length};
+ghost use Rattle.labels.specs.Answer.{clusterRowBytes, clusterRowLength, clusterRowSize};
+ghost use Rattle.labels.specs.Layout.{clusterRow};
+ghost use Rattle.lookup.specs.Rows.{glyphsIn};
+ghost use Rattle.clusters.specs.Clusters.{clustersOf};
+ghost use Rattle.wire.specs.Splice.{splice};
+ghost use Rattle.answer.specs.Glyphs.{unitsIn};
+ghost use Rattle.answer.specs.Clusters.{clusterHeadBytes, glyphsWithin, clusterSize, clustersSize};
+
+// ---- how long they are
+
+// How many glyphs of a merged list of `count` are the cluster's.
+fn glyphs_within(count: usize, c: Cluster) -> usize
+    ensures { λ r. ⌜ (r ≡ glyphsWithin count c) × (r ≤ count) ⌝ }
+{
+    let from = c.from as usize;
+    let n = c.count as usize;
+    if count < from {
+        return 0;
+    }
+    if count - from < n {
+        return count - from;
+    }
+    n
+}
+
+pub fn cluster_row_length(count: usize, c: Cluster) -> usize
+    requires { ⌜ count ≤ 65_536 ⌝ }
+    ensures { λ r. ⌜ (r ≡ clusterSize count c) × (r ≤ clusterRowSize count) ⌝ }
+{
+    CLUSTER_ROW_BYTES + GLYPH_ROW_BYTES * glyphs_within(count, c)
+}
+
+// Of the first `n` clusters.
+pub fn cluster_rows_length(
+    count: usize,
+    floats: &[[f32; 10]],
+    words: &[[u32; 6]],
+    n: usize,
+) -> usize
+    requires { ⌜ (count ≤ 65_536) × (n ≤ 65_536) × (n ≤ length (now floats)) × (n ≤ length (now words)) ⌝ }
+    ensures { λ r. ⌜ (r ≡ clustersSize count (clustersOf (now (floats .entry)) (now (words .entry)) n)) × (r ≤ n * clusterRowSize count) ⌝ }
+{
+    let mut size: usize = 0;
+    let mut i: usize = 0;
+    while i < n {
+        size += cluster_row_length(count, cluster_at(floats, words, i));
+        i += 1;
+    }
+    size
+}
+
+// ---- their bytes
+
+// The row of a cluster with so many glyphs, up to them.
+fn put_cluster_head(out: &mut [u8], at: usize, mode: u8, c: Cluster, glyphs: usize)
+    requires { ⌜ at + clusterRowSize 0 ≤ length (now out) ⌝ }
+    ensures { λ _. ⌜ now (out .exit) ≡ splice (now (out .entry)) at (clusterHeadBytes mode c glyphs) ⌝ }
+{
+    put_number(out, at, CLUSTER_INDEX_BYTES, c.index as u64);
+    put_u8(out, at + CLUSTER_FLAGS_AT, flags_of(mode, c));
+    let floats = floats_of(c);
+    put_floats(out, at + CLUSTER_FLOATS_AT, &floats);
+    put_number(out, at + GLYPH_COUNT_AT, GLYPH_COUNT_BYTES, glyphs as u64);
+}
+
+// The row of a cluster whose glyphs stand among the first `count` of a merged list `rows`, the places of glyph rows in the record `s`.
+pub fn put_cluster_row(
+    out: &mut [u8],
+    at: usize,
+    mode: u8,
+    s: &[u8],
+    rows: &[u32],
+    count: usize,
+    c: Cluster,
+)
+    requires { ⌜ (at + clusterRowLength (clusterRow mode (glyphsIn (now s) (now rows) count) c) ≤ length (now out))
+        × (count ≤ length (now rows)) × (unitsIn (glyphsIn (now s) (now rows) count) ≡ true) ⌝ }
+    ensures { λ _. ⌜ now (out .exit) ≡ splice (now (out .entry)) at
+        (clusterRowBytes (clusterRow mode (glyphsIn (now (s .entry)) (now (rows .entry)) count) c)) ⌝ }
+{
+    let merged = &rows[..count];
+    let places = glyph_places(merged, c.from as usize, c.count as usize);
+    put_cluster_head(out, at, mode, c, places.len());
+    put_glyphs(out, at + CLUSTER_ROW_BYTES, s, places);
+}
+
+// The rows of the first `n` clusters; the result is the place behind them.
+pub fn put_cluster_rows(
+    out: &mut [u8],
+    at: usize,
+    mode: u8,
+    s: &[u8],
+    rows: &[u32],
+    count: usize,
+    floats: &[[f32; 10]],
+    words: &[[u32; 6]],
+    n: usize,
+) -> usize
+    requires { ⌜ (at + clustersSize count (clustersOf (now floats) (now words) n) ≤ length (now out))
+        × (count ≤ 65_536) × (count ≤ length (now rows)) × (n ≤ length (now floats)) × (n ≤ length (now words))
+        × (unitsIn (glyphsIn (now s) (now rows) count) ≡ true) ⌝ }
+    ensures { λ r. ⌜ (now (out .exit) ≡ splice (now (out .entry)) at (flatMap clusterRowBytes
+        (map (clusterRow mode (glyphsIn (now (s .entry)) (now (rows .entry)) count)) (clustersOf (now (floats .entry)) (now (words .entry)) n))))
+        × (r ≡ at + clustersSize count (clustersOf (now (floats .entry)) (now (words .entry)) n)) ⌝ }
+{
+    let mut here = at;
+    let mut i: usize = 0;
+    while i < n {
+        let c = cluster_at(floats, words, i);
+        put_cluster_row(out, here, mode, s, rows, count, c);
+        here += cluster_row_length(count, c);
+        i += 1;
+    }
+    here
+}

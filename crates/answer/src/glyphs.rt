@@ -1,0 +1,86 @@
+// Glyph rows: a cluster's glyphs in order, each x from the widths before it.
+use crate::sizes::GLYPH_FONT_AT;
+use crate::sizes::GLYPH_ROW_BYTES;
+use crate::sizes::GLYPH_X_AT;
+use crate::sizes::GLYPH_Y_AT;
+use forming::runs::place_in;
+use labels::Glyph;
+use parts::rows::glyph_at;
+use wire::write::put_f32;
+use wire::write::put_u8;
+use wire::write::put_u32;
+ghost use mathlib.Core.Path.{_≡_};
+ghost use mathlib.Core.Bool.{true};
+ghost use mathlib.Core.List.{flatMap};
+ghost use Prim.Native.Nat.{_+_, _*_, _≤_};
+ghost use lib.ListN.{length, take, drop};
+ghost use lib.IntN.{negℤ};
+ghost use lib.Ieee.{binary32, ofInt};
+ghost use Rattle.labels.specs.Single.{+0};
+ghost use Rattle.labels.specs.Check.{unitsOk};
+ghost use Rattle.labels.specs.Answer.{glyphRowSize, glyphRowBytes};
+ghost use Rattle.labels.specs.Layout.{glyphRows};
+ghost use Rattle.lookup.specs.Rows.{glyphsIn};
+ghost use Rattle.wire.specs.Splice.{splice};
+ghost use Rattle.answer.specs.Glyphs.{glyphRow, unitsIn};
+
+// The `count` places from `from` on, as many as there are.
+pub fn glyph_places(rows: &[u32], from: usize, count: usize) -> &[u32]
+    ensures { λ r. ⌜ now r ≡ take count (drop from (now (rows .entry))) ⌝ }
+{
+    if rows.len() < from {
+        let end = rows.len();
+        return &rows[end..];
+    }
+    let rest = &rows[from..];
+    if count <= rest.len() {
+        return &rest[..count];
+    }
+    rest
+}
+
+// Font units as a float: a cast is taken only of a whole number that is a float.
+fn units(z: i32) -> f32
+    requires { ⌜ unitsOk z ≡ true ⌝ }
+    ensures { λ r. ⌜ r ≡ ofInt binary32 z ⌝ }
+{
+    z as f32
+}
+
+// The whole number is negated, so that 0 gives +0.
+fn units_negated(z: i32) -> f32
+    requires { ⌜ unitsOk z ≡ true ⌝ }
+    ensures { λ r. ⌜ r ≡ ofInt binary32 (negℤ z) ⌝ }
+{
+    (0 - z) as f32
+}
+
+// The row of a glyph before which the widths add up to `x`.
+pub fn put_glyph(out: &mut [u8], at: usize, glyph: Glyph, x: f32)
+    requires { ⌜ (at + glyphRowSize ≤ length (now out)) × (unitsOk (glyph .dx) ≡ true) × (unitsOk (glyph .dy) ≡ true) ⌝ }
+    ensures { λ _. ⌜ now (out .exit) ≡ splice (now (out .entry)) at (glyphRowBytes (glyphRow x glyph)) ⌝ }
+{
+    put_u32(out, at, glyph.id);
+    put_u8(out, at + GLYPH_FONT_AT, glyph.font);
+    put_f32(out, at + GLYPH_X_AT, x + units(glyph.dx));
+    put_f32(out, at + GLYPH_Y_AT, units_negated(glyph.dy));
+}
+
+// The rows of the glyphs at `places` in the record `s`.
+pub fn put_glyphs(out: &mut [u8], at: usize, s: &[u8], places: &[u32])
+    requires { ⌜ (at + glyphRowSize * length (now places) ≤ length (now out))
+        × (unitsIn (glyphsIn (now s) (now places) (length (now places))) ≡ true) ⌝ }
+    ensures { λ _. ⌜ now (out .exit) ≡ splice (now (out .entry)) at
+        (flatMap glyphRowBytes (glyphRows +0 (glyphsIn (now (s .entry)) (now (places .entry)) (length (now (places .entry)))))) ⌝ }
+{
+    let mut x: f32 = 0.0;
+    let mut here = at;
+    let mut i: usize = 0;
+    while i < places.len() {
+        let glyph = glyph_at(s, place_in(places, i));
+        put_glyph(out, here, glyph, x);
+        x += units(glyph.width);
+        here += GLYPH_ROW_BYTES;
+        i += 1;
+    }
+}

@@ -1,0 +1,181 @@
+// The row of a span. A span with no font has none.
+use crate::floats::put_floats;
+use crate::runs::put_runs;
+use crate::sizes::RUN_BYTES;
+use crate::sizes::RUN_COUNT_AT;
+use crate::sizes::RUN_COUNT_BYTES;
+use crate::sizes::RUNS_AT;
+use crate::sizes::SPAN_FLOATS_AT;
+use baseline::offset::over_offset;
+use baseline::offset::thickness;
+use baseline::offset::through_offset;
+use baseline::offset::under_offset;
+use baseline::resolve::resolve_baseline;
+use decoration::collect_decoration_spans;
+use labels::Point;
+use lookup::font_in;
+use parts::rows::span_at;
+use wire::write::put_number;
+use wire::write::put_u8;
+ghost use mathlib.Core.Path.{_≡_};
+ghost use mathlib.Core.List.{List, [], _∷_, map, flatMap};
+ghost use Prim.Native.Nat.{ℕ, _+_, _*_, _≤_};
+ghost use lib.ListN.{length, drop};
+ghost use Rattle.labels.specs.Job.{Job};
+ghost use Rattle.labels.specs.Decode.{partsOf};
+ghost use Rattle.labels.specs.declared.Cluster.{Cluster};
+ghost use Rattle.labels.specs.declared.Point.{Point};
+ghost use Rattle.labels.specs.Answer.{spanRowSize, spanRowBytes, spanRowLength, sum};
+ghost use Rattle.labels.specs.Layout.{spanRow, spanRows};
+ghost use Rattle.wire.specs.Splice.{splice};
+ghost use Rattle.lookup.specs.Rows.{fontsIn};
+ghost use Rattle.clusters.specs.Clusters.{clustersOf};
+ghost use Rattle.answer.specs.Spans.{jobWith, rowFloats, spanHeadBytes, hasRow};
+
+// The font byte of a span with no font.
+pub const NO_FONT: u8 = 255;
+
+// ---- a row
+
+// The floats of the row of the span at `place`; they are the same for any clusters and any index.
+fn span_row_floats(s: &[u8], mode: u8, fonts: usize, place: usize, origin: Point) -> [f32; 7]
+    ensures { λ r. ⌜ ((cs : List Cluster) (k : ℕ)
+        → r ≡ rowFloats (spanRow (jobWith mode (fontsIn (now (s .entry)) fonts)) origin cs k (partsOf (drop place (now (s .entry)))))) ⌝ }
+{
+    let span = span_at(s, place);
+    let font = font_in(s, fonts, span.font);
+    let shift = resolve_baseline(mode, font, s, place);
+    let thick = thickness(font, span);
+    let under = under_offset(mode, font, span);
+    let over = over_offset(mode, font, span);
+    let through = through_offset(mode, font, span);
+    [origin.x, origin.y, shift, thick, under, over, through]
+}
+
+// What comes before the runs of a row: its index, its floats, and how many runs there are.
+fn put_span_head(out: &mut [u8], at: usize, k: u8, values: &[f32; 7], runs: usize)
+    requires { ⌜ at + spanRowSize 0 ≤ length (now out) ⌝ }
+    ensures { λ _. ⌜ now (out .exit) ≡ splice (now (out .entry)) at (spanHeadBytes k (now (values .entry)) runs) ⌝ }
+{
+    let floats_at = at + SPAN_FLOATS_AT;
+    let count_at = at + RUN_COUNT_AT;
+    put_u8(out, at, k);
+    put_floats(out, floats_at, values);
+    put_number(out, count_at, RUN_COUNT_BYTES, runs as u64);
+}
+
+// The row of the span at `place`, whose index is `k`; the place behind it.
+fn put_span_row(
+    out: &mut [u8],
+    at: usize,
+    s: &[u8],
+    mode: u8,
+    fonts: usize,
+    place: usize,
+    k: u8,
+    origin: Point,
+    floats: &[[f32; 10]],
+    words: &[[u32; 6]],
+    n: usize,
+    firsts: &mut [u32],
+    widths: &mut [f32],
+) -> usize
+    requires { ⌜ (n ≤ 65_535) × (n ≤ length (now floats)) × (n ≤ length (now words)) × (n ≤ length (now firsts)) × (n ≤ length (now widths))
+        × (at + spanRowLength (spanRow (jobWith mode (fontsIn (now s) fonts)) origin (clustersOf (now floats) (now words) n) k (partsOf (drop place (now s))))
+        ≤ length (now out)) ⌝ }
+    ensures { λ r.
+        let row = spanRow (jobWith mode (fontsIn (now (s .entry)) fonts)) origin (clustersOf (now (floats .entry)) (now (words .entry)) n) k
+        (partsOf (drop place (now (s .entry)))) in
+        ⌜ (r ≡ at + spanRowLength row) × (now (out .exit) ≡ splice (now (out .entry)) at (spanRowBytes row)) ⌝ }
+{
+    let values = span_row_floats(s, mode, fonts, place, origin);
+    let runs = collect_decoration_spans(span_at(s, place), floats, words, n, firsts, widths);
+    let runs_at = at + RUNS_AT;
+    put_span_head(out, at, k, &values, runs);
+    put_runs(out, runs_at, firsts, widths, runs);
+    runs_at + runs * RUN_BYTES
+}
+
+// ---- the rows of one span: a row, or none
+
+fn has_row(s: &[u8], place: usize) -> bool
+    ensures { λ r. ⌜ r ≡ hasRow (partsOf (drop place (now (s .entry)))) ⌝ }
+{
+    span_at(s, place).font != NO_FONT
+}
+
+// How many rows.
+pub fn span_count(s: &[u8], place: usize) -> usize
+    ensures { λ r. ⌜ (r ≤ 1) × ((job : Job) (origin : Point) (cs : List Cluster) (k : ℕ)
+        → r ≡ length (spanRows job origin cs k (partsOf (drop place (now (s .entry))) ∷ []))) ⌝ }
+{
+    if has_row(s, place) {
+        return 1;
+    }
+    0
+}
+
+// How many bytes.
+pub fn span_length(
+    s: &[u8],
+    place: usize,
+    floats: &[[f32; 10]],
+    words: &[[u32; 6]],
+    n: usize,
+    firsts: &mut [u32],
+    widths: &mut [f32],
+) -> usize
+    requires { ⌜ (n ≤ 65_535) × (n ≤ length (now floats)) × (n ≤ length (now words)) × (n ≤ length (now firsts)) × (n ≤ length (now widths)) ⌝ }
+    ensures { λ r. ⌜ (r ≤ spanRowSize n) × ((job : Job) (origin : Point) (k : ℕ)
+        → r ≡ sum (map spanRowLength (spanRows job origin (clustersOf (now (floats .entry)) (now (words .entry)) n) k (partsOf (drop place (now (s .entry))) ∷ [])))) ⌝ }
+{
+    if has_row(s, place) {
+        let count = collect_decoration_spans(span_at(s, place), floats, words, n, firsts, widths);
+        return RUNS_AT + count * RUN_BYTES;
+    }
+    0
+}
+
+// They are put, and the place behind them is given; `k` is the span's index.
+pub fn put_span(
+    out: &mut [u8],
+    at: usize,
+    s: &[u8],
+    mode: u8,
+    fonts: usize,
+    place: usize,
+    k: u8,
+    origin: Point,
+    floats: &[[f32; 10]],
+    words: &[[u32; 6]],
+    n: usize,
+    firsts: &mut [u32],
+    widths: &mut [f32],
+) -> usize
+    requires { ⌜ (n ≤ 65_535) × (n ≤ length (now floats)) × (n ≤ length (now words)) × (n ≤ length (now firsts)) × (n ≤ length (now widths))
+        × (at + sum (map spanRowLength (spanRows (jobWith mode (fontsIn (now s) fonts)) origin (clustersOf (now floats) (now words) n) k (partsOf (drop place (now s)) ∷ [])))
+        ≤ length (now out)) ⌝ }
+    ensures { λ r.
+        let rows = spanRows (jobWith mode (fontsIn (now (s .entry)) fonts)) origin (clustersOf (now (floats .entry)) (now (words .entry)) n) k
+        (partsOf (drop place (now (s .entry))) ∷ []) in
+        ⌜ (r ≡ at + sum (map spanRowLength rows)) × (now (out .exit) ≡ splice (now (out .entry)) at (flatMap spanRowBytes rows)) ⌝ }
+{
+    if has_row(s, place) {
+        return put_span_row(
+            out,
+            at,
+            s,
+            mode,
+            fonts,
+            place,
+            k,
+            origin,
+            floats,
+            words,
+            n,
+            firsts,
+            widths,
+        );
+    }
+    at
+}

@@ -1,0 +1,48 @@
+-- The call's whole promise: what is answered, and demand 3 of it. Assumes nothing.
+use Prim.Native.Nat.{ℕ, suc, _<_}
+use mathlib.Core.Path.{_≡_, refl, sym, ap, subst, _∙_}
+use mathlib.Core.List.{List, [], _∷_}
+use native.Mathlib.Omega.{arith}
+use lib.ListN.{length, getD}
+use Rattle.laws.proofs.All.{All}
+use Rattle.laws.proofs.Counted.{IsByte}
+use Rattle.exact.proofs.Answer.{near-answer}
+use Rattle.labels.specs.Outcome.{Outcome, refused, given}
+use Rattle.labels.specs.Check.{checked}
+use Rattle.labels.specs.Layout as definitions
+use Rattle.labels.specs.Layout.{layoutOf, bufferAfter}
+use Rattle.labels.specs.Exact.{NearAnswer}
+use Rattle.layout.specs.declared.Answered.{Answered}
+use Rattle.layout.specs.Steps.{jobIn, jobLaid, answered}
+use Rattle.layout.specs.Called.{numberOf, lengthOf, Answers, LaidOut}
+use Rattle.layout.proofs.Answering.{call-given, call-refused}
+
+-- bytes, each known by its place
+pub bytes-of : (xs : List ℕ) → ((i : ℕ) → getD xs i 0 < 256) → All IsByte xs
+bytes-of [] h = All.none
+bytes-of (x ∷ xs) h = All.more (h 0) (bytes-of xs (λ i. h (suc i)))
+
+module _ (s old : List ℕ) where
+  pub promised-given : {r : Answered} {new : List ℕ} → All IsByte s → checked s ≡ given (jobIn s) → Answers (answered (jobLaid s) (length old)) old r new
+      → LaidOut s old (numberOf r) (lengthOf r) new
+  promised-given {r} {new} bs e a =
+      let is : answered (jobLaid s) (length old) ≡ layoutOf s (length old) = sym (call-given s (length old) e) in
+      let buffer : new ≡ bufferAfter (layoutOf s (length old)) old = a .buffer ∙ ap (λ (o : Outcome (List ℕ)). bufferAfter o old) is in
+      record {
+        number = a .number ∙ ap definitions.numberOf is;
+        written = a .written ∙ ap definitions.lengthOf is;
+        buffer = buffer;
+        small = a .small;
+        near = λ answer f. subst (NearAnswer (checked s)) (sym buffer) (near-answer s (length old) answer old bs f);
+      }
+
+  pub promised-refused : (k : ℕ) → checked s ≡ refused k → LaidOut s old k 0 old
+  promised-refused k e =
+      let is = call-refused s (length old) k e in
+      record {
+        number = rw is refl;
+        written = rw is refl;
+        buffer = rw is refl;
+        small = omega arith;
+        near = λ answer f. let same : refused k ≡ given answer = sym is ∙ f in let z : _≡_ {A = ℕ} 0 1 = cc same in absurd (omega arith);
+      }

@@ -1,0 +1,66 @@
+// The call: a job in, an answer or a refusal out.
+mod chunks;
+mod merged;
+mod owner;
+mod passes;
+mod pen;
+mod place;
+mod progress;
+mod steps;
+mod write;
+
+use answer::head::put_answer_head;
+use job::check::AFTER_VERSION;
+use job::check::Checked;
+use job::check::check;
+use labels::Job;
+use parts::sizes::chunk_count;
+use passes::first_pass;
+use passes::second_pass;
+use progress::Laid;
+use wire::place::from;
+ghost use lib.ListN.{length};
+ghost use Rattle.layout.specs.Checked.{CheckedJob};
+ghost use Rattle.layout.specs.Called.{numberOf, lengthOf, Answers, LaidOut};
+ghost use Rattle.layout.specs.Steps.{answered, jobLaid};
+
+// The answer's whole length, or the number that the job is refused with.
+pub enum Answered {
+    Written(usize),
+    Refused(u8),
+}
+
+// The number for an answer that is longer than the lent buffer.
+pub const TOO_LONG: u8 = 10;
+
+// Of a job that passes the checks.
+fn laid_out(s: &[u8], job: Job, answer: &mut [u8]) -> Answered
+    requires { ⌜ CheckedJob (now s) job ⌝ }
+    ensures { λ r. ⌜ Answers (answered (jobLaid (now (s .entry))) (length (now (answer .entry)))) (now (answer .entry)) r (now (answer .exit)) ⌝ }
+{
+    match first_pass(s, job, answer) {
+        Laid::Refused(number) => Answered::Refused(number),
+        Laid::Going(end) => {
+            if answer.len() < end.length {
+                return Answered::Refused(TOO_LONG);
+            }
+            second_pass(s, job, answer);
+            put_answer_head(
+                answer,
+                end.length,
+                chunk_count(from(s, AFTER_VERSION)) as u8,
+            );
+            Answered::Written(end.length)
+        }
+    }
+}
+
+// The whole call. What it promises, of any bytes and any buffer, is in specs/Called: the number, the length, the buffer's bytes, and demand 3.
+pub fn layout_text(job: &[u8], answer: &mut [u8]) -> Answered
+    ensures { λ r. ⌜ LaidOut (now (job .entry)) (now (answer .entry)) (numberOf r) (lengthOf r) (now (answer .exit)) ⌝ }
+{
+    match check(job) {
+        Checked::Refused(number) => Answered::Refused(number),
+        Checked::Accepted(places) => laid_out(job, places, answer),
+    }
+}

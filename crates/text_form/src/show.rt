@@ -1,0 +1,118 @@
+// An answer's lines: each chunk, its clusters, then each span followed by its runs. A refused job has one line.
+use crate::line;
+use crate::rows;
+ghost use mathlib.Core.Path.{_≡_};
+ghost use lib.ListN.{drop};
+ghost use Rattle.labels.specs.Answer.{chunkRowSizeOf};
+ghost use Rattle.text_form.specs.Walk.{rowSizeOf, behind};
+use wire::place::after;
+use wire::place::from;
+use wire::read::u8_at;
+use wire::read::u16_at;
+
+fn show_cluster(i: usize, row: &[u8]) {
+    line::start(b"cluster");
+    line::number(i as u64);
+    line::number(u16_at(row, rows::BYTE_INDEX_AT) as u64);
+    line::number(u8_at(row, rows::FLAGS_AT) as u64);
+    line::float(row, rows::WIDTH_AT);
+    line::float(row, rows::ADVANCE_AT);
+    line::float(row, rows::SHIFT_X_AT);
+    line::end();
+}
+
+fn show_run(span: u8, run: &[u8]) {
+    line::start(b"run");
+    line::number(span as u64);
+    line::number(u16_at(run, rows::FIRST_CLUSTER_AT) as u64);
+    line::float(run, rows::RUN_WIDTH_AT);
+    line::end();
+}
+
+fn show_runs(row: &[u8]) {
+    let span = u8_at(row, rows::SPAN_INDEX_AT);
+    let count = u16_at(row, rows::RUN_COUNT_AT) as usize;
+    let mut at = rows::RUNS_AT;
+    for _ in 0..count {
+        show_run(span, from(row, at));
+        at = after(row, at, rows::RUN_BYTES);
+    }
+}
+
+fn show_span(row: &[u8]) {
+    line::start(b"span");
+    line::number(u8_at(row, rows::SPAN_INDEX_AT) as u64);
+    line::float(row, rows::BASELINE_SHIFT_AT);
+    line::float(row, rows::THICKNESS_AT);
+    line::float(row, rows::UNDER_OFFSET_AT);
+    line::end();
+    show_runs(row);
+}
+
+pub enum RowKind {
+    Cluster,
+    Span,
+}
+
+// Shows the row that `row` starts with, the i-th of its kind, and answers how many bytes it has.
+fn show_row(kind: RowKind, i: usize, row: &[u8]) -> usize
+    ensures { λ r. ⌜ r ≡ rowSizeOf kind (now (row .entry)) ⌝ }
+{
+    match kind {
+        RowKind::Cluster => {
+            show_cluster(i, row);
+            rows::cluster_size(row)
+        }
+        RowKind::Span => {
+            show_span(row);
+            rows::span_size(row)
+        }
+    }
+}
+
+// Shows the chunk's rows of a kind, the first of which stands at `first`, and answers where they end.
+fn show_rows(kind: RowKind, chunk: &[u8], first: usize, count: usize) -> usize
+    ensures { λ r. ⌜ drop r (now (chunk .entry)) ≡ behind (rowSizeOf kind) count (drop first (now (chunk .entry))) ⌝ }
+{
+    let mut at = first;
+    for i in 0..count {
+        let size = show_row(kind, i, from(chunk, at));
+        at = after(chunk, at, size);
+    }
+    at
+}
+
+fn show_chunk_head(i: usize, chunk: &[u8]) {
+    line::start(b"chunk");
+    line::number(i as u64);
+    line::number(u16_at(chunk, rows::CLUSTER_COUNT_AT) as u64);
+    line::float(chunk, rows::PEN_X_AT);
+    line::float(chunk, rows::PEN_Y_AT);
+    line::end();
+}
+
+// Shows the chunk that `chunk` starts with, and answers where it ends.
+fn show_chunk(i: usize, chunk: &[u8]) -> usize
+    ensures { λ r. ⌜ drop r (now (chunk .entry)) ≡ drop (chunkRowSizeOf (now (chunk .entry))) (now (chunk .entry)) ⌝ }
+{
+    show_chunk_head(i, chunk);
+    let clusters = u16_at(chunk, rows::CLUSTER_COUNT_AT) as usize;
+    let spans = u8_at(chunk, rows::SPAN_COUNT_AT) as usize;
+    let first_span = show_rows(RowKind::Cluster, chunk, rows::CLUSTERS_AT, clusters);
+    show_rows(RowKind::Span, chunk, first_span, spans)
+}
+
+pub fn show_answer(answer: &[u8]) {
+    let count = u8_at(answer, rows::CHUNK_COUNT_AT) as usize;
+    let mut at = rows::CHUNKS_AT;
+    for i in 0..count {
+        let size = show_chunk(i, from(answer, at));
+        at = after(answer, at, size);
+    }
+}
+
+pub fn show_refusal(number: u8) {
+    line::start(b"refused");
+    line::number(number as u64);
+    line::end();
+}

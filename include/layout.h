@@ -1,0 +1,164 @@
+/*
+ * layout.h: places the shaped glyphs of a label.
+ *
+ * One call reads a job (fonts, text, spans, shaped glyphs) and writes an answer (clusters with their places, decoration runs) into a
+ * buffer that the caller lends. It allocates nothing and keeps nothing from one call to the next, so threads may call it at once.
+ * Link with liblayout_c.a, which `rt staticlib layout_c` writes to target/staticlib.
+ *
+ * Numbers are big-endian. A float is the 4 bytes of an IEEE 754 binary32, a u16 2 bytes, a u32 4 bytes.
+ */
+#ifndef LAYOUT_H
+#define LAYOUT_H
+
+#include <stddef.h>
+#include <stdint.h>
+
+#ifdef __cplusplus
+extern "C" {
+#endif
+
+struct layout_result {
+    uint32_t number; /* LAYOUT_DONE, or why the job is refused */
+    uint32_t length; /* bytes of the answer, its length field counted; 0 where the job is refused */
+};
+
+/*
+ * Neither pointer is null, and the two ranges do not overlap. Any bytes may stand in both.
+ * Done: the answer stands in the first `length` bytes of `answer`, and the bytes behind it are as they were.
+ * Refused: `answer` is as it was, every byte of it.
+ *
+ * A buffer three times as long as the job is never too short: a glyph has 25 bytes in a job and brings at most 64 to the answer (a cluster
+ * row, its glyph and a run), and no other row takes three times the bytes that it has in the job. (Counted from the sizes of the rows; the
+ * proof does not speak of it. A buffer that is too short is refused with 10 and left as it was.)
+ */
+struct layout_result layout_text(const uint8_t *job, size_t job_len, uint8_t *answer, size_t answer_len);
+
+/*
+ * Why a job is refused. 1 to 6 are found before anything is laid out, each in the whole job before the next. Then the chunks are laid out
+ * in order, each with 7 or 8, whichever comes first, then 9. 10 is told last, so a job refused with 10 is laid out with a longer buffer.
+ */
+enum layout_number {
+    LAYOUT_DONE = 0,
+    LAYOUT_BAD_LENGTH = 1,     /* under 5 bytes, over 65,536, or the length field is not the byte count less 4 */
+    LAYOUT_BAD_VERSION = 2,    /* the version byte is not 1 */
+    LAYOUT_BAD_COUNT = 3,      /* a count is over its limit, or the counted rows do not end with the job */
+    LAYOUT_BAD_FIELD = 4,      /* a field is outside its values, or a font byte names no font row */
+    LAYOUT_BAD_TEXT = 5,       /* text is not UTF-8, or a glyph's byte index is not the start of a character */
+    LAYOUT_BAD_SPAN = 6,       /* a span ends before it starts, past the text, or starts before the span before it ends */
+    LAYOUT_MERGE_PAST_END = 7, /* a glyph of a later span takes the place of more glyphs than are left */
+    LAYOUT_TOO_MANY_GLYPHS = 8, /* a chunk has more than 1,024 glyphs once its spans are merged */
+    LAYOUT_NO_WIDTH = 9,       /* a span is to be stretched to a text length, and all its clusters have width 0 */
+    LAYOUT_NO_ROOM = 10        /* the answer is longer than the lent buffer */
+};
+
+/* ---- limits of a job */
+
+#define LAYOUT_VERSION 1
+#define LAYOUT_JOB_MOST 65536
+#define LAYOUT_FONTS_MOST 16
+#define LAYOUT_LIST_MOST 4096 /* of each list: dx, dy, rotate */
+#define LAYOUT_CHUNKS_MOST 16
+#define LAYOUT_TEXT_MOST 4096 /* bytes of a chunk's text */
+#define LAYOUT_SPANS_MOST 32
+#define LAYOUT_SHIFTS_MOST 8
+#define LAYOUT_GLYPHS_MOST 1024 /* of a span, and of a chunk once its spans are merged */
+#define LAYOUT_CLUSTER_LENGTH_MOST 64
+#define LAYOUT_NO_FONT 255 /* the font byte of a span without a font: such a span has no glyphs */
+
+/* ---- the answer
+ *
+ * u32 length of what follows, version byte, chunk count byte, chunks.
+ */
+#define LAYOUT_CHUNK_COUNT_AT 5
+#define LAYOUT_CHUNKS_AT 6
+
+/* ---- a chunk: its head, its cluster rows, its span rows */
+
+#define LAYOUT_CLUSTER_COUNT_AT 0 /* u16 */
+#define LAYOUT_SPAN_COUNT_AT 2    /* byte: the spans with a font */
+#define LAYOUT_PEN_X_AT 3         /* float: the pen after the chunk; the next chunk starts there if it gives no x */
+#define LAYOUT_PEN_Y_AT 7         /* float */
+#define LAYOUT_CHUNK_HEAD_BYTES 11
+
+/* ---- a cluster row: the glyphs that are drawn for one place of the text, and where they go
+ *
+ * Lengths are in the label's units, y downwards. The span that covers the byte index gives font size, colour and origin.
+ */
+#define LAYOUT_BYTE_INDEX_AT 0 /* u16: the place in the chunk's text */
+#define LAYOUT_FLAGS_AT 2      /* byte: the flags below */
+#define LAYOUT_WIDTH_AT 3      /* float: how wide the glyphs are */
+#define LAYOUT_ADVANCE_AT 7    /* float: how far the next cluster starts from this one, spacing included */
+#define LAYOUT_SPACING_AT 11   /* float: what a text length added to the width */
+#define LAYOUT_ASCENT_AT 15    /* float: the height above the baseline */
+#define LAYOUT_DESCENT_AT 19   /* float: the depth below it, negative */
+#define LAYOUT_NUDGE_AT 23     /* float: top to bottom, the shift that puts the baseline in the middle; else 0 */
+#define LAYOUT_SCALE_AT 27     /* float: with LAYOUT_SCALED, the stretch along the line; else 0 */
+#define LAYOUT_SHIFT_X_AT 31   /* float: from the origin to the cluster, along the line */
+#define LAYOUT_SHIFT_Y_AT 35   /* float: and across it */
+#define LAYOUT_ANGLE_AT 39     /* float: with LAYOUT_ROTATED, degrees, clockwise; else 0 */
+#define LAYOUT_GLYPH_COUNT_AT 43 /* u16 */
+#define LAYOUT_GLYPHS_AT 45
+#define LAYOUT_CLUSTER_BYTES(glyphs) (LAYOUT_GLYPHS_AT + LAYOUT_GLYPH_BYTES * (size_t)(glyphs))
+
+/* the flags of a cluster */
+#define LAYOUT_RELATIVE_SHIFT 1 /* moved by dx and dy otherwise than the cluster before it, or rotated: a decoration line breaks here */
+#define LAYOUT_UPRIGHT 2        /* top to bottom: stands upright */
+#define LAYOUT_SIDEWAYS 4       /* top to bottom: lies on its side */
+#define LAYOUT_SCALED 8         /* stretched to a text length */
+#define LAYOUT_ROTATED 16       /* turned by the rotate list */
+#define LAYOUT_COLLAPSED 32     /* negative letter spacing left it no room: width 0 and no glyphs */
+
+/* ---- a glyph of a cluster
+ *
+ * x and y are in font units, y downwards: times font size ÷ units per em they are lengths.
+ */
+#define LAYOUT_GLYPH_ID_AT 0   /* u32 */
+#define LAYOUT_GLYPH_FONT_AT 4 /* byte: the job's font row */
+#define LAYOUT_GLYPH_X_AT 5    /* float */
+#define LAYOUT_GLYPH_Y_AT 9    /* float */
+#define LAYOUT_GLYPH_BYTES 13
+
+/* ---- a span row: for each span with a font
+ *
+ * An offset is from the baseline to the middle of the line that is drawn, y downwards, and 0 where the span has no such decoration.
+ */
+#define LAYOUT_SPAN_INDEX_AT 0      /* byte: the span's place in the job's chunk */
+#define LAYOUT_ORIGIN_X_AT 1        /* float: where the chunk starts */
+#define LAYOUT_ORIGIN_Y_AT 5        /* float */
+#define LAYOUT_BASELINE_SHIFT_AT 9  /* float: how far down the span's baseline is moved */
+#define LAYOUT_THICKNESS_AT 13      /* float: of a decoration line */
+#define LAYOUT_UNDER_OFFSET_AT 17   /* float */
+#define LAYOUT_OVER_OFFSET_AT 21    /* float */
+#define LAYOUT_THROUGH_OFFSET_AT 25 /* float */
+#define LAYOUT_RUN_COUNT_AT 29      /* u16 */
+#define LAYOUT_RUNS_AT 31
+#define LAYOUT_SPAN_BYTES(runs) (LAYOUT_RUNS_AT + LAYOUT_RUN_BYTES * (size_t)(runs))
+
+/* ---- a run: a decoration line without a break, from its first cluster's place */
+
+#define LAYOUT_FIRST_CLUSTER_AT 0 /* u16: index of the cluster row in the chunk */
+#define LAYOUT_RUN_WIDTH_AT 2     /* float: the advances of its clusters */
+#define LAYOUT_RUN_BYTES 6
+
+/*
+ * To draw a glyph, start from the identity and append, each step to be applied before the ones already there:
+ *
+ *   1. top to bottom: rotate 90 about the origin;
+ *   2. translate (origin x, origin y), then translate (0, baseline shift), both of the covering span's row;
+ *   3. translate (0, nudge) if LAYOUT_SIDEWAYS;
+ *   4. scale (scale, 1) if LAYOUT_SCALED;
+ *   5. translate (shift x, shift y);
+ *   6. rotate angle if LAYOUT_ROTATED;
+ *   7. translate (0, nudge) and rotate -90 about (ascent, -nudge) if LAYOUT_UPRIGHT;
+ *   8. scale (s, s), s being the span's font size ÷ the glyph font's units per em;
+ *   9. translate (glyph x, glyph y); font outlines, whose y goes up, are then mirrored by scale (1, -1).
+ *
+ * A decoration line takes steps 1 to 6 of its run's first cluster, without 7, and is the rectangle from (0, offset - thickness ÷ 2), as
+ * wide as the run and as high as the thickness.
+ */
+
+#ifdef __cplusplus
+}
+#endif
+
+#endif
