@@ -6,7 +6,7 @@ use mathlib.Core.List.{List, [], _∷_, _++_, map, flatMap, append-assoc}
 use native.Mathlib.Nat.{le-refl}
 use native.Mathlib.Numerals.{add-one}
 use native.Mathlib.Omega.{arith}
-use lib.Ieee.{Float}
+use lib.Ieee.{Float, nan}
 use lib.ListN.{length, getD, take, drop, length-append, length-map, length-take, length-drop, drop-of-length-le}
 use lib.Seq.{drop-cons, take-all}
 use Rattle.labels.specs.declared.Glyph.{Glyph}
@@ -18,7 +18,7 @@ use Rattle.laws.proofs.Numbers.{length-bytes}
 use Rattle.laws.proofs.AnswerLength.{length-floats, length-clusterRow, length-flatMap}
 use Rattle.lookup.specs.Rows.{glyphsIn}
 use Rattle.lookup.proofs.Rows.{map-in}
-use Rattle.clusters.specs.Clusters.{clusterOf, clustersOf}
+use Rattle.clusters.specs.Clusters.{clusterOf, floatsOf, clustersOf}
 use Rattle.clusters.proofs.Rows.{clusters-length, clusters-at}
 use Rattle.forming.proofs.Passing.{all-take, all-drop}
 use Rattle.forming.proofs.Glyphs.{map-take, glyphs-length}
@@ -27,6 +27,19 @@ use Rattle.answer.specs.Glyphs.{unitsIn}
 use Rattle.answer.specs.Clusters.{clusterHeadBytes, clusterSize, clustersSize}
 use Rattle.answer.proofs.GlyphsLeft.{count-glyphRows}
 use Rattle.answer.proofs.Puts.{RowsLeft, row-room, row-turn, row-done}
+
+-- ---- ten floats of a row are those of its cluster
+
+module _ (f : List Float) where
+  cell : (i : ℕ) {rest : List Float} → i < length f → drop (suc i) f ≡ rest → drop i f ≡ getD f i nan ∷ rest
+  cell i h e = drop-cons f i nan h ∙ ap (λ (l : List Float). getD f i nan ∷ l) e
+
+  pub floats-back : (w : List ℕ) → length f ≡ 10 → floatsOf (clusterOf f w) ≡ f
+  floats-back w e =
+      sym
+      (cell 0 (omega arith) (cell 1 (omega arith) (cell 2 (omega arith) (cell 3 (omega arith) (cell 4 (omega arith)
+      (cell 5 (omega arith) (cell 6 (omega arith) (cell 7 (omega arith) (cell 8 (omega arith) (cell 9 (omega arith)
+      (drop-of-length-le f {i = 10} (omega arith))))))))))))
 
 -- ---- a sum, term by term
 
@@ -67,16 +80,21 @@ length-head mode c glyphs = simp (length-append, length-bytes, length-floats) (o
 
 -- ---- how long it is
 
-module _ (mode : ℕ) (gs : List Glyph) where
-  pub row-length : (c : Cluster) → clusterRowLength (clusterRow mode gs c) ≡ clusterRowSize (length (glyphsOf gs c))
-  unfolding clusterRow
-  row-length c = ap clusterRowSize (count-glyphRows +0 (glyphsOf gs c))
+row-length : (mode : ℕ) (gs : List Glyph) (c : Cluster) → clusterRowLength (clusterRow mode gs c) ≡ clusterRowSize (length (glyphsOf gs c))
+unfolding clusterRow
+row-length mode gs c = ap clusterRowSize (count-glyphRows +0 (glyphsOf gs c))
 
+-- with the glyphs at `places`
+pub row-of-places : (s rows : List ℕ) (count : ℕ) (places : List ℕ) (c : Cluster) → places ≡ take (c .count) (drop (c .from) (take count rows)) → (mode : ℕ)
+    → clusterRowLength (clusterRow mode (glyphsIn s rows count) c) ≡ clusterRowSize (length places)
+row-of-places s rows count places c e mode = row-length mode (glyphsIn s rows count) c ∙ ap clusterRowSize (sym (places-length s rows count places c e))
+
+module _ (mode : ℕ) (gs : List Glyph) where
   module _ (count : ℕ) (e : length gs ≡ count) where
     pub row-size : (c : Cluster) → clusterRowLength (clusterRow mode gs c) ≡ clusterSize count c
     unfolding clusterSize
     row-size c =
-        row-length c ∙ ap clusterRowSize (length-take (c .count) (drop (c .from) gs) ∙ ap (min (c .count)) (length-drop (c .from) gs ∙ ap (λ (n : ℕ). n - c .from) e))
+        row-length mode gs c ∙ ap clusterRowSize (length-take (c .count) (drop (c .from) gs) ∙ ap (min (c .count)) (length-drop (c .from) gs ∙ ap (λ (n : ℕ). n - c .from) e))
 
     pub rows-size : (cs : List Cluster) → sum (map clusterRowLength (map (clusterRow mode gs) cs)) ≡ clustersSize count cs
     unfolding clustersSize

@@ -18,32 +18,33 @@ use Rattle.lookup.specs.Rows.{glyphsIn}
 use Rattle.forming.proofs.Glyphs.{glyph-next}
 use Rattle.forming.proofs.Passing.{all-first, all-rest}
 use Rattle.wire.specs.Splice.{splice}
-use Rattle.answer.specs.Glyphs.{glyphRow, unitsIn}
+use Rattle.answer.specs.Glyphs.{glyphRow, unitsOf, unitsIn}
 use Rattle.answer.proofs.Puts.{Putting, put-room, put-turn, put-done}
 
 -- ---- the next glyph's distances are within their bounds, and those behind it
 
 module _ {gs rest : List Glyph} {g : Glyph} (e : gs ≡ g ∷ rest) (h : unitsIn gs ≡ true) where
-  first-ok : (unitsOk (g .dx) && (unitsOk (g .dy) && unitsOk (g .width))) ≡ true
-  first-ok = all-first (λ (g : Glyph). unitsOk (g .dx) && (unitsOk (g .dy) && unitsOk (g .width))) e h
-
-  pub dx-ok : unitsOk (g .dx) ≡ true
-  dx-ok = and-left (unitsOk (g .dx)) _ first-ok
-
-  pub dy-ok : unitsOk (g .dy) ≡ true
-  dy-ok = and-left (unitsOk (g .dy)) _ (and-right (unitsOk (g .dx)) _ first-ok)
-
-  pub width-ok : unitsOk (g .width) ≡ true
-  width-ok = and-right (unitsOk (g .dy)) _ (and-right (unitsOk (g .dx)) _ first-ok)
+  pub first-ok : unitsOf g ≡ true
+  first-ok = all-first unitsOf e h
 
   pub rest-ok : unitsIn rest ≡ true
-  rest-ok = all-rest (λ (g : Glyph). unitsOk (g .dx) && (unitsOk (g .dy) && unitsOk (g .width))) e h
+  rest-ok = all-rest unitsOf e h
+
+module _ (g : Glyph) (h : unitsOf g ≡ true) where
+  pub dx-ok : unitsOk (g .dx) ≡ true
+  dx-ok = and-left (unitsOk (g .dx)) _ h
+
+  pub dy-ok : unitsOk (g .dy) ≡ true
+  dy-ok = and-left (unitsOk (g .dy)) _ (and-right (unitsOk (g .dx)) _ h)
+
+  pub width-ok : unitsOk (g .width) ≡ true
+  width-ok = and-right (unitsOk (g .dy)) _ (and-right (unitsOk (g .dx)) _ h)
 
 -- ---- the glyph that is read at place i is the next
 
-pub glyph-here : (s places : List ℕ) (n i at : ℕ) {g : Glyph} → g ≡ glyphOf (drop at s) → at ≡ getD places i 0 → i < n → n ≤ length places
-    → drop i (glyphsIn s places n) ≡ g ∷ drop (i + 1) (glyphsIn s places n)
-glyph-here s places n i at e f h k = rw (e, f) (glyph-next s places n i h k)
+pub glyph-here : (s places : List ℕ) (n i at : ℕ) → at ≡ getD places i 0 → i < n → n ≤ length places
+    → drop i (glyphsIn s places n) ≡ glyphOf (drop at s) ∷ drop (i + 1) (glyphsIn s places n)
+glyph-here s places n i at e h k = rw e (glyph-next s places n i h k)
 
 -- ---- how long they are
 
@@ -69,11 +70,11 @@ module _ (gs : List Glyph) where
     pub glyph-room : here + glyphRowSize ≤ length out
     glyph-room = omega (arith, length-glyphRow (glyphRow x g), put-room p (glyphRowBytes (glyphRow x g)) _ next)
 
-    pub glyph-turn : (w : Float) {out′ : List ℕ} {here′ : ℕ} → out′ ≡ splice out here (glyphRowBytes (glyphRow x g)) → w ≡ ofInt binary32 (g .width) → here′ ≡ here + glyphRowSize
-        → GlyphsLeft old at out′ here′ (x +ᶠ w) rest
-    glyph-turn w eo ew eh = rw ew (put-turn p (glyphRowBytes (glyphRow x g)) _ next eo (omega (arith, length-glyphRow (glyphRow x g))))
+    pub glyph-turn : {x′ : Float} {out′ : List ℕ} {here′ : ℕ} → out′ ≡ splice out here (glyphRowBytes (glyphRow x g)) → x′ ≡ x +ᶠ ofInt binary32 (g .width) → here′ ≡ here + glyphRowSize
+        → GlyphsLeft old at out′ here′ x′ rest
+    glyph-turn eo ex eh = rw ex (put-turn p (glyphRowBytes (glyphRow x g)) _ next eo (omega (arith, length-glyphRow (glyphRow x g))))
 
   pub glyphs-done : {old : List ℕ} {at : ℕ} {out : List ℕ} {here : ℕ} (x : Float) {left : List Glyph} → left ≡ [] → GlyphsLeft old at out here x left
-      → out ≡ splice old at (flatMap glyphRowBytes (glyphRows +0 gs))
+      → (out ≡ splice old at (flatMap glyphRowBytes (glyphRows +0 gs))) × (here ≡ at + length (flatMap glyphRowBytes (glyphRows +0 gs)))
   unfolding flatMap glyphRows
-  glyphs-done x e p = put-done p (rw e) .0
+  glyphs-done x e p = put-done p (rw e)

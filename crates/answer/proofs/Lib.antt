@@ -6,3 +6,4 @@ pub mod ClusterRows
 pub mod RunRows
 pub mod SpanRows
 pub mod ChunkRows
+pub mod ChunkMost

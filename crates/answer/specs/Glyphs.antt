@@ -13,6 +13,9 @@ use Rattle.labels.specs.Answer.{GlyphRow}
 abbrev pub glyphRow : Float → Glyph → GlyphRow
 glyphRow x g = record { id = g .id; font = g .font; x = x +ᶠ ofInt binary32 (g .dx); y = ofInt binary32 (negℤ (g .dy)) }
 
--- every distance is within its bounds, as in a checked job
+-- every distance is within its bounds, as in a checked job: of a glyph, and of some
+abbrev pub unitsOf : Glyph → Bool
+unitsOf g = unitsOk (g .dx) && (unitsOk (g .dy) && unitsOk (g .width))
+
 abbrev pub unitsIn : List Glyph → Bool
-unitsIn gs = all (λ (g : Glyph). unitsOk (g .dx) && (unitsOk (g .dy) && unitsOk (g .width))) gs
+unitsIn gs = all unitsOf gs

@@ -3,8 +3,12 @@ use crate::cluster::cluster_rows_length;
 use crate::cluster::put_cluster_rows;
 use crate::sizes::CHUNK_HEAD_BYTES;
 use crate::sizes::CLUSTER_COUNT_BYTES;
+use crate::sizes::CLUSTER_ROW_BYTES;
+use crate::sizes::GLYPH_ROW_BYTES;
 use crate::sizes::PEN_X_AT;
 use crate::sizes::PEN_Y_AT;
+use crate::sizes::RUN_BYTES;
+use crate::sizes::RUNS_AT;
 use crate::sizes::SPAN_COUNT_AT;
 use crate::sizes::SPAN_COUNT_BYTES;
 use crate::spans::put_span_rows;
@@ -59,6 +63,17 @@ pub fn chunk_row_length(
 {
     let clusters = cluster_rows_length(count, floats, words, n);
     CHUNK_HEAD_BYTES + clusters + span_rows_length(s, spans, floats, words, n, firsts, widths)
+}
+
+// No row of so many spans and clusters is longer: as if each cluster had all of the `count` merged glyphs, and each span a run for each
+// cluster.
+pub fn chunk_row_most(spans: usize, count: usize, n: usize) -> usize
+    requires { ⌜ (n ≤ 65_535) × (spans ≤ 255) × (count ≤ 65_536) ⌝ }
+    ensures { λ r. ⌜ r ≡ chunkHeadSize + n * clusterRowSize count + spans * spanRowSize n ⌝ }
+{
+    let cluster_row = CLUSTER_ROW_BYTES + GLYPH_ROW_BYTES * count;
+    let span_row = RUNS_AT + RUN_BYTES * n;
+    CHUNK_HEAD_BYTES + n * cluster_row + spans * span_row
 }
 
 // The row is put, and the place behind it is given.

@@ -11,7 +11,7 @@ use crate::sizes::GLYPH_COUNT_AT;
 use crate::sizes::GLYPH_COUNT_BYTES;
 use crate::sizes::GLYPH_ROW_BYTES;
 use clusters::cluster_at;
-use clusters::floats_of;
+use clusters::cluster_of;
 use labels::Cluster;
 use wire::write::put_number;
 use wire::write::put_u8;
@@ -23,7 +23,7 @@ ghost use lib.ListN.{length};
 ghost use Rattle.labels.specs.Answer.{clusterRowBytes, clusterRowLength, clusterRowSize};
 ghost use Rattle.labels.specs.Layout.{clusterRow};
 ghost use Rattle.lookup.specs.Rows.{glyphsIn};
-ghost use Rattle.clusters.specs.Clusters.{clustersOf};
+ghost use Rattle.clusters.specs.Clusters.{clusterOf, clustersOf};
 ghost use Rattle.wire.specs.Splice.{splice};
 ghost use Rattle.answer.specs.Glyphs.{unitsIn};
 ghost use Rattle.answer.specs.Clusters.{clusterHeadBytes, glyphsWithin, clusterSize, clustersSize};
@@ -73,19 +73,28 @@ pub fn cluster_rows_length(
 
 // ---- their bytes
 
-// The row of a cluster with so many glyphs, up to them.
-fn put_cluster_head(out: &mut [u8], at: usize, mode: u8, c: Cluster, glyphs: usize)
+// The row of a cluster with so many glyphs, up to them. The floats are put as they are lent, so that they are not copied one by one.
+fn put_cluster_head(
+    out: &mut [u8],
+    at: usize,
+    mode: u8,
+    floats: &[f32; 10],
+    words: &[u32; 6],
+    glyphs: usize,
+)
     requires { ⌜ at + clusterRowSize 0 ≤ length (now out) ⌝ }
-    ensures { λ _. ⌜ now (out .exit) ≡ splice (now (out .entry)) at (clusterHeadBytes mode c glyphs) ⌝ }
+    ensures { λ _. ⌜ now (out .exit) ≡ splice (now (out .entry)) at
+        (clusterHeadBytes mode (clusterOf (now (floats .entry)) (now (words .entry))) glyphs) ⌝ }
 {
+    let c = cluster_of(*floats, *words);
     put_number(out, at, CLUSTER_INDEX_BYTES, c.index as u64);
     put_u8(out, at + CLUSTER_FLAGS_AT, flags_of(mode, c));
-    let floats = floats_of(c);
-    put_floats(out, at + CLUSTER_FLOATS_AT, &floats);
+    put_floats(out, at + CLUSTER_FLOATS_AT, floats);
     put_number(out, at + GLYPH_COUNT_AT, GLYPH_COUNT_BYTES, glyphs as u64);
 }
 
-// The row of a cluster whose glyphs stand among the first `count` of a merged list `rows`, the places of glyph rows in the record `s`.
+// The row of a cluster whose glyphs stand among the first `count` of a merged list `rows`, the places of glyph rows in the record `s`. The result
+// is the place behind it.
 pub fn put_cluster_row(
     out: &mut [u8],
     at: usize,
@@ -93,17 +102,20 @@ pub fn put_cluster_row(
     s: &[u8],
     rows: &[u32],
     count: usize,
-    c: Cluster,
-)
-    requires { ⌜ (at + clusterRowLength (clusterRow mode (glyphsIn (now s) (now rows) count) c) ≤ length (now out))
+    floats: &[f32; 10],
+    words: &[u32; 6],
+) -> usize
+    requires { ⌜ (at + clusterRowLength (clusterRow mode (glyphsIn (now s) (now rows) count) (clusterOf (now floats) (now words))) ≤ length (now out))
         × (count ≤ length (now rows)) × (unitsIn (glyphsIn (now s) (now rows) count) ≡ true) ⌝ }
-    ensures { λ _. ⌜ now (out .exit) ≡ splice (now (out .entry)) at
-        (clusterRowBytes (clusterRow mode (glyphsIn (now (s .entry)) (now (rows .entry)) count) c)) ⌝ }
+    ensures { λ r.
+        let row = clusterRow mode (glyphsIn (now (s .entry)) (now (rows .entry)) count) (clusterOf (now (floats .entry)) (now (words .entry))) in
+        ⌜ (now (out .exit) ≡ splice (now (out .entry)) at (clusterRowBytes row)) × (r ≡ at + clusterRowLength row) ⌝ }
 {
+    let c = cluster_of(*floats, *words);
     let merged = &rows[..count];
     let places = glyph_places(merged, c.from as usize, c.count as usize);
-    put_cluster_head(out, at, mode, c, places.len());
-    put_glyphs(out, at + CLUSTER_ROW_BYTES, s, places);
+    put_cluster_head(out, at, mode, floats, words, places.len());
+    put_glyphs(out, at + CLUSTER_ROW_BYTES, s, places)
 }
 
 // The rows of the first `n` clusters; the result is the place behind them.
@@ -128,9 +140,7 @@ pub fn put_cluster_rows(
     let mut here = at;
     let mut i: usize = 0;
     while i < n {
-        let c = cluster_at(floats, words, i);
-        put_cluster_row(out, here, mode, s, rows, count, c);
-        here += cluster_row_length(count, c);
+        here = put_cluster_row(out, here, mode, s, rows, count, &floats[i], &words[i]);
         i += 1;
     }
     here

@@ -6,6 +6,9 @@ use crate::sizes::GLYPH_Y_AT;
 use forming::runs::place_in;
 use labels::Glyph;
 use parts::rows::glyph_at;
+use parts::rows::glyph_of;
+use parts::sizes::GLYPH_BYTES;
+use wire::place::from;
 use wire::write::put_f32;
 use wire::write::put_u8;
 use wire::write::put_u32;
@@ -16,13 +19,14 @@ ghost use Prim.Native.Nat.{_+_, _*_, _≤_};
 ghost use lib.ListN.{length, take, drop};
 ghost use lib.IntN.{negℤ};
 ghost use lib.Ieee.{binary32, ofInt};
-ghost use Rattle.labels.specs.Single.{+0};
+ghost use Rattle.labels.specs.Single.{+0, _+ᶠ_};
 ghost use Rattle.labels.specs.Check.{unitsOk};
+ghost use Rattle.labels.specs.Decode.{glyphOf};
 ghost use Rattle.labels.specs.Answer.{glyphRowSize, glyphRowBytes};
 ghost use Rattle.labels.specs.Layout.{glyphRows};
 ghost use Rattle.lookup.specs.Rows.{glyphsIn};
 ghost use Rattle.wire.specs.Splice.{splice};
-ghost use Rattle.answer.specs.Glyphs.{glyphRow, unitsIn};
+ghost use Rattle.answer.specs.Glyphs.{glyphRow, unitsOf, unitsIn};
 
 // The `count` places from `from` on, as many as there are.
 pub fn glyph_places(rows: &[u32], from: usize, count: usize) -> &[u32]
@@ -66,21 +70,43 @@ pub fn put_glyph(out: &mut [u8], at: usize, glyph: Glyph, x: f32)
     put_f32(out, at + GLYPH_Y_AT, units_negated(glyph.dy));
 }
 
-// The rows of the glyphs at `places` in the record `s`.
-pub fn put_glyphs(out: &mut [u8], at: usize, s: &[u8], places: &[u32])
+// As `put_glyph`; the result is what the widths add up to with this glyph's.
+fn put_next(out: &mut [u8], at: usize, glyph: Glyph, x: f32) -> f32
+    requires { ⌜ (at + glyphRowSize ≤ length (now out)) × (unitsOf glyph ≡ true) ⌝ }
+    ensures { λ r. ⌜ (now (out .exit) ≡ splice (now (out .entry)) at (glyphRowBytes (glyphRow x glyph))) × (r ≡ x +ᶠ ofInt binary32 (glyph .width)) ⌝ }
+{
+    put_glyph(out, at, glyph, x);
+    x + units(glyph.width)
+}
+
+// The glyph at `place` in the record `s`. A row that is whole, as nearly every one is, is read in place.
+fn put_glyph_at(out: &mut [u8], at: usize, s: &[u8], place: usize, x: f32) -> f32
+    requires { ⌜ (at + glyphRowSize ≤ length (now out)) × (unitsOf (glyphOf (drop place (now s))) ≡ true) ⌝ }
+    ensures { λ r. ⌜ (now (out .exit) ≡ splice (now (out .entry)) at (glyphRowBytes (glyphRow x (glyphOf (drop place (now (s .entry)))))))
+        × (r ≡ x +ᶠ ofInt binary32 (glyphOf (drop place (now (s .entry))) .width)) ⌝ }
+{
+    let row = from(s, place);
+    if GLYPH_BYTES <= row.len() {
+        return put_next(out, at, glyph_of(row), x);
+    }
+    put_next(out, at, glyph_at(s, place), x)
+}
+
+// The rows of the glyphs at `places` in the record `s`; the result is the place behind them.
+pub fn put_glyphs(out: &mut [u8], at: usize, s: &[u8], places: &[u32]) -> usize
     requires { ⌜ (at + glyphRowSize * length (now places) ≤ length (now out))
         × (unitsIn (glyphsIn (now s) (now places) (length (now places))) ≡ true) ⌝ }
-    ensures { λ _. ⌜ now (out .exit) ≡ splice (now (out .entry)) at
-        (flatMap glyphRowBytes (glyphRows +0 (glyphsIn (now (s .entry)) (now (places .entry)) (length (now (places .entry)))))) ⌝ }
+    ensures { λ r. ⌜ (now (out .exit) ≡ splice (now (out .entry)) at
+        (flatMap glyphRowBytes (glyphRows +0 (glyphsIn (now (s .entry)) (now (places .entry)) (length (now (places .entry)))))))
+        × (r ≡ at + glyphRowSize * length (now (places .entry))) ⌝ }
 {
     let mut x: f32 = 0.0;
     let mut here = at;
     let mut i: usize = 0;
     while i < places.len() {
-        let glyph = glyph_at(s, place_in(places, i));
-        put_glyph(out, here, glyph, x);
-        x += units(glyph.width);
+        x = put_glyph_at(out, here, s, place_in(places, i), x);
         here += GLYPH_ROW_BYTES;
         i += 1;
     }
+    here
 }

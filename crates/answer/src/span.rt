@@ -13,8 +13,11 @@ use baseline::offset::under_offset;
 use baseline::resolve::resolve_baseline;
 use decoration::collect_decoration_spans;
 use labels::Point;
+use labels::Span;
 use lookup::font_in;
 use parts::rows::span_at;
+use wire::place::from;
+use wire::read::u8_at;
 use wire::write::put_number;
 use wire::write::put_u8;
 ghost use mathlib.Core.Path.{_≡_};
@@ -22,7 +25,7 @@ ghost use mathlib.Core.List.{List, [], _∷_, map, flatMap};
 ghost use Prim.Native.Nat.{ℕ, _+_, _*_, _≤_};
 ghost use lib.ListN.{length, drop};
 ghost use Rattle.labels.specs.Job.{Job};
-ghost use Rattle.labels.specs.Decode.{partsOf};
+ghost use Rattle.labels.specs.Decode.{spanOf, partsOf};
 ghost use Rattle.labels.specs.declared.Cluster.{Cluster};
 ghost use Rattle.labels.specs.declared.Point.{Point};
 ghost use Rattle.labels.specs.Answer.{spanRowSize, spanRowBytes, spanRowLength, sum};
@@ -35,16 +38,26 @@ ghost use Rattle.answer.specs.Spans.{jobWith, rowFloats, spanHeadBytes, 
 // The font byte of a span with no font.
 pub const NO_FONT: u8 = 255;
 
+// Where the font byte stands in a span's record.
+const FONT_AT: usize = 4;
+
 // ---- a row
 
-// The floats of the row of the span at `place`; they are the same for any clusters and any index.
-fn span_row_floats(s: &[u8], mode: u8, fonts: usize, place: usize, origin: Point) -> [f32; 7]
+// The floats of the row of a span and its record, which stands at `place`; they are the same for any clusters and any index.
+fn span_row_floats(
+    s: &[u8],
+    mode: u8,
+    fonts: usize,
+    place: usize,
+    span: Span,
+    origin: Point,
+) -> [f32; 7]
+    requires { ⌜ span ≡ spanOf (drop place (now s)) ⌝ }
     ensures { λ r. ⌜ ((cs : List Cluster) (k : ℕ)
         → r ≡ rowFloats (spanRow (jobWith mode (fontsIn (now (s .entry)) fonts)) origin cs k (partsOf (drop place (now (s .entry)))))) ⌝ }
 {
-    let span = span_at(s, place);
     let font = font_in(s, fonts, span.font);
-    let shift = resolve_baseline(mode, font, s, place);
+    let shift = resolve_baseline(mode, font, span, s, place);
     let thick = thickness(font, span);
     let under = under_offset(mode, font, span);
     let over = over_offset(mode, font, span);
@@ -88,8 +101,9 @@ fn put_span_row(
         (partsOf (drop place (now (s .entry)))) in
         ⌜ (r ≡ at + spanRowLength row) × (now (out .exit) ≡ splice (now (out .entry)) at (spanRowBytes row)) ⌝ }
 {
-    let values = span_row_floats(s, mode, fonts, place, origin);
-    let runs = collect_decoration_spans(span_at(s, place), floats, words, n, firsts, widths);
+    let span = span_at(s, place);
+    let values = span_row_floats(s, mode, fonts, place, span, origin);
+    let runs = collect_decoration_spans(span, floats, words, n, firsts, widths);
     let runs_at = at + RUNS_AT;
     put_span_head(out, at, k, &values, runs);
     put_runs(out, runs_at, firsts, widths, runs);
@@ -101,7 +115,7 @@ fn put_span_row(
 fn has_row(s: &[u8], place: usize) -> bool
     ensures { λ r. ⌜ r ≡ hasRow (partsOf (drop place (now (s .entry)))) ⌝ }
 {
-    span_at(s, place).font != NO_FONT
+    u8_at(from(s, place), FONT_AT) != NO_FONT
 }
 
 // How many rows.

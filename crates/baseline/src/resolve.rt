@@ -4,22 +4,22 @@ use crate::alignment::alignment_baseline_shift;
 use crate::alignment::span_alignment;
 use crate::shift::resolve_baseline_shift;
 use labels::Font;
-use parts::rows::span_at;
+use labels::Span;
 use parts::sizes::shift_count;
 use wire::place::from;
 ghost use mathlib.Core.Path.{_≡_};
 ghost use lib.ListN.{drop};
-ghost use Rattle.labels.specs.Decode.{partsOf};
+ghost use Rattle.labels.specs.Decode.{spanOf, partsOf};
 ghost use Rattle.labels.specs.Baseline.{resolveBaseline};
 
 // Where a span's shifts begin in its record.
 const SHIFTS: usize = 27;
 
-// The span's record stands at `at`. Top to bottom nothing is added to its own shifts.
-pub fn resolve_baseline(mode: u8, font: Font, s: &[u8], at: usize) -> f32
+// The span and its record, which stands at `at`. Top to bottom nothing is added to its own shifts.
+pub fn resolve_baseline(mode: u8, font: Font, span: Span, s: &[u8], at: usize) -> f32
+    requires { ⌜ span ≡ spanOf (drop at (now s)) ⌝ }
     ensures { λ r. ⌜ r ≡ resolveBaseline mode font (partsOf (drop at (now (s .entry)))) ⌝ }
 {
-    let span = span_at(s, at);
     let row = from(s, at);
     let shift = -resolve_baseline_shift(row, SHIFTS, shift_count(row), font, span.size);
     if mode == LEFT_TO_RIGHT {

@@ -10,9 +10,8 @@ use spacing::letter::apply_letter_spacing;
 use spacing::mode::apply_writing_mode;
 use spacing::word::apply_word_spacing;
 ghost use mathlib.Core.Path.{_≡_};
-ghost use mathlib.Core.Bool.{true};
 ghost use mathlib.Core.List.{map};
-ghost use Prim.Native.Nat.{_≤_, _<_};
+ghost use Prim.Native.Nat.{_≤_};
 ghost use lib.ListN.{length, take};
 ghost use Rattle.labels.specs.Spacing.{applyLetterSpacing};
 ghost use Rattle.labels.specs.Cluster.{rounded, applyWritingMode};
@@ -20,8 +19,8 @@ ghost use Rattle.labels.specs.Position.{logicalOrder};
 ghost use Rattle.lookup.specs.Rows.{fontsIn, spansIn, glyphsIn};
 ghost use Rattle.clusters.specs.Clusters.{clustersOf, indexesIn};
 ghost use Rattle.sorting.specs.Sorted.{keyOf};
-ghost use Rattle.forming.specs.Groups.{widthsOk};
-ghost use Rattle.chunk.specs.Steps.{collapsedFrom, adjustedFrom, formedOf, Ready};
+ghost use Rattle.forming.specs.Groups.{clustersIn};
+ghost use Rattle.chunk.specs.Steps.{Formable, collapsedFrom, adjustedFrom, formedOf, Ready};
 
 // How many clusters there are, or the number that the job is refused with.
 pub enum Formed {
@@ -59,11 +58,10 @@ fn collapsed_clusters(
     order: &mut [u32],
     spare: &mut [u32],
 ) -> usize
-    requires { ⌜ (count ≤ length (now rows)) × (count ≤ length (now floats)) × (count ≤ length (now words)) × (count ≤ length (now order))
-        × (count ≤ length (now spare)) × (count ≤ 1_024) × (length (now spans) < 256) × (widthsOk (glyphsIn (now s) (now rows) count) ≡ true) ⌝ }
+    requires { ⌜ Formable (now s) (now spans) (now rows) count (length (now floats)) (length (now words)) (length (now order)) (length (now spare)) ⌝ }
     ensures { λ r. ⌜ (clustersOf (now (floats .exit)) (now (words .exit)) r
         ≡ collapsedFrom (job .mode) (fontsIn (now (s .entry)) (job .fonts)) (spansIn (now (s .entry)) (now (spans .entry))) (glyphsIn (now (s .entry)) (now (rows .entry)) count))
-        × (r ≤ count)
+        × (r ≤ count) × (r ≡ clustersIn (now (s .entry)) (now (spans .entry)) (now (rows .entry)) count)
         × (take r (now (order .exit)) ≡ map keyOf (logicalOrder (indexesIn (now (words .exit)) r))) ⌝ }
 {
     let n = form_clusters(s, job.fonts, spans, rows, count, floats, words);
@@ -85,12 +83,11 @@ pub fn adjusted_clusters(
     order: &mut [u32],
     spare: &mut [u32],
 ) -> Formed
-    requires { ⌜ (count ≤ length (now rows)) × (count ≤ length (now floats)) × (count ≤ length (now words)) × (count ≤ length (now order))
-        × (count ≤ length (now spare)) × (count ≤ 1_024) × (length (now spans) < 256) × (widthsOk (glyphsIn (now s) (now rows) count) ≡ true) ⌝ }
+    requires { ⌜ Formable (now s) (now spans) (now rows) count (length (now floats)) (length (now words)) (length (now order)) (length (now spare)) ⌝ }
     ensures { λ r. ⌜ (formedOf r (clustersOf (now (floats .exit)) (now (words .exit)))
         ≡ adjustedFrom (job .mode) (fontsIn (now (s .entry)) (job .fonts)) (now (text .entry)) (spansIn (now (s .entry)) (now (spans .entry)))
         (glyphsIn (now (s .entry)) (now (rows .entry)) count))
-        × Ready r count (now (order .exit)) (now (words .exit)) ⌝ }
+        × Ready r (clustersIn (now (s .entry)) (now (spans .entry)) (now (rows .entry)) count) (now (order .exit)) (now (words .exit)) ⌝ }
 {
     let n = collapsed_clusters(s, job, spans, rows, count, floats, words, order, spare);
     apply_word_spacing(s, text, spans, floats, words, n);

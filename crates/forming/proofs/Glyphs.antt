@@ -7,10 +7,12 @@ use native.Mathlib.Numerals.{add-one}
 use native.Mathlib.Omega.{arith}
 use lib.ListN.{length, getD, take, drop, length-map, length-take, length-drop, drop-of-length-le}
 use lib.Seq.{take-nil, drop-cons, getD-take, take-take, length-take-le}
+use Rattle.labels.specs.declared.Glyph.{Glyph}
+use Rattle.labels.specs.Check.{unitsOk}
 use Rattle.labels.specs.Decode.{glyphOf, spanOf}
 use Rattle.lookup.specs.Rows.{spansIn, glyphsIn}
 use Rattle.lookup.proofs.Rows.{map-in}
-use Rattle.forming.proofs.Passing.{all-take, all-drop}
+use Rattle.forming.proofs.Passing.{all-first, all-take, all-drop}
 use Rattle.forming.specs.Groups.{glyphIn, widthsOk}
 
 -- ---- a list that is mapped
@@ -48,6 +50,9 @@ module _ (s rows : List ℕ) (n : ℕ) where
   glyph-next i h k =
       let h₁ : i < length (take n rows) = simp length-take (omega arith) in
       rw (map-next (λ (at : ℕ). glyphOf (drop at s)) (take n rows) i 0 h₁, getD-take n rows i 0)
+
+  pub width-next : (i : ℕ) → i < n → n ≤ length rows → widthsOk (drop i (glyphsIn s rows n)) ≡ true → unitsOk (glyphIn s rows i .width) ≡ true
+  width-next i h k e = all-first (λ (g : Glyph). unitsOk (g .width)) (glyph-next i h k) e
 
   pub glyphs-length : n ≤ length rows → length (glyphsIn s rows n) ≡ n
   unfolding glyphsIn

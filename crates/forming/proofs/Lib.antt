@@ -1,6 +1,8 @@
 pub mod Search
 pub mod Glyphs
 pub mod FirstRun
+pub mod FewClusters
+pub mod NextRun
 pub mod Passing
 pub mod Sums
 pub mod Turns

@@ -1,37 +1,51 @@
--- A cluster's advance and width, glyph by glyph. Assumes nothing.
+-- A cluster's width and advance, glyph by glyph. Assumes nothing.
+use Prim.Native.Nat.{ℕ, _+_, _≤_, _<_}
 use mathlib.Core.Path.{_≡_, refl}
-use mathlib.Core.Bool.{true, false}
-use mathlib.Core.List.{List, _∷_, foldl}
-use lib.Ieee.{Float, lt}
+use mathlib.Core.Bool.{true}
+use mathlib.Core.List.{List, foldl}
+use lib.ListN.{length, drop}
+use lib.Ieee.{Float}
 use Rattle.labels.specs.declared.Font.{Font}
 use Rattle.labels.specs.declared.Glyph.{Glyph}
+use Rattle.labels.specs.Check.{unitsOk}
 use Rattle.labels.specs.Single.{_+ᶠ_, +0}
 use Rattle.labels.specs.Kind.{greatest, glyphAdvance, sumAdvance, maxAdvance}
 use Rattle.labels.specs.Cluster.{rounded}
+use Rattle.lookup.specs.Rows.{glyphsIn}
+use Rattle.forming.specs.Groups.{glyphIn, widthsOk}
+use Rattle.forming.proofs.Passing.{all-rest}
+use Rattle.forming.proofs.Glyphs.{glyph-next, glyphs-end}
 
-module _ (fonts : List Font) (size : Float) where
-  -- what comes of a sum so far, and of the largest so far, with the glyphs that are left
-  abbrev pub summed : Float → List Glyph → Float
-  summed a gs = foldl (λ (a : Float) (g : Glyph). a +ᶠ glyphAdvance rounded fonts size g) a gs
+module _ (s rows : List ℕ) (fonts : List Font) (size : Float) (from end : ℕ) where
+  abbrev glyphsFrom : ℕ → List Glyph
+  glyphsFrom i = drop i (glyphsIn s rows end)
 
-  abbrev pub widest : Float → List Glyph → Float
-  widest w gs = foldl (λ (w : Float) (g : Glyph). greatest rounded w (glyphAdvance rounded fonts size g)) w gs
+  -- with the glyphs from place i on, which are left, the largest so far, w, and the sum so far, a, come to the cluster's width and advance
+  pub record Left (i : ℕ) (w a : Float) : Type 0 where
+    pub fit : end ≤ length rows
+    pub widths : widthsOk (glyphsFrom i) ≡ true
+    pub width : foldl (λ (w : Float) (g : Glyph). greatest rounded w (glyphAdvance rounded fonts size g)) w (glyphsFrom i) ≡ maxAdvance rounded fonts size (glyphsFrom from)
+    pub advance : foldl (λ (a : Float) (g : Glyph). a +ᶠ glyphAdvance rounded fonts size g) a (glyphsFrom i) ≡ sumAdvance rounded fonts size (glyphsFrom from)
 
-  pub sum-start : (gs : List Glyph) → summed +0 gs ≡ sumAdvance rounded fonts size gs
-  unfolding sumAdvance
-  sum-start gs = refl
+  pub left-all : end ≤ length rows → widthsOk (glyphsFrom from) ≡ true → Left from +0 +0
+  unfolding maxAdvance sumAdvance
+  left-all fit h = record { fit = fit; widths = h; width = refl; advance = refl }
 
-  pub width-start : (gs : List Glyph) → widest +0 gs ≡ maxAdvance rounded fonts size gs
-  unfolding maxAdvance
-  width-start gs = refl
+module _ {s rows : List ℕ} {fonts : List Font} {size : Float} {from end i : ℕ} {w a : Float} (left : Left s rows fonts size from end i w a) where
+  -- x is the next glyph's advance
+  pub left-next : i < end → {x v b : Float} → x ≡ glyphAdvance rounded fonts size (glyphIn s rows i) → (v ≡ greatest rounded w x) × (b ≡ a +ᶠ x)
+      → Left s rows fonts size from end (i + 1) v b
+  left-next h e with-x =
+      let next = glyph-next s rows end i h (left .fit) in
+      record {
+        fit = left .fit;
+        widths = all-rest (λ (g : Glyph). unitsOk (g .width)) next (left .widths);
+        width = rw (with-x .0, e) (rw next at (left .width));
+        advance = rw (with-x .1, e) (rw next at (left .advance));
+      }
 
-  -- the next glyph, of advance x
-  module _ {gs rest : List Glyph} {g : Glyph} (x : Float) (e : gs ≡ g ∷ rest) (h : x ≡ glyphAdvance rounded fonts size g) where
-    pub sum-turn : (a : Float) → summed (a +ᶠ x) rest ≡ summed a gs
-    sum-turn a = rw (h, e)
-
-    pub width-more : (w : Float) → lt w x ≡ true → widest x rest ≡ widest w gs
-    width-more w t = let u : lt w (glyphAdvance rounded fonts size g) ≡ true = rw h at t in rw (h, e, u)
-
-    pub width-same : (w : Float) → lt w x ≡ false → widest w rest ≡ widest w gs
-    width-same w t = let u : lt w (glyphAdvance rounded fonts size g) ≡ false = rw h at t in rw (e, u)
+  pub left-none : end ≤ i
+      → (w ≡ maxAdvance rounded fonts size (drop from (glyphsIn s rows end))) × (a ≡ sumAdvance rounded fonts size (drop from (glyphsIn s rows end)))
+  left-none h =
+      let none = glyphs-end s rows end i h (left .fit) in
+      (rw none at (left .width), rw none at (left .advance))

@@ -1,4 +1,4 @@
--- One turn of the loop that forms the clusters of a chunk, and its end. Assumes nothing.
+-- One turn of the loops that form and count the clusters of a chunk, and their end. Assumes nothing.
 use Prim.Native.Nat.{ℕ, _+_, _≤_, _<_}
 use mathlib.Core.Path.{_≡_, refl, ap, _∙_}
 use mathlib.Core.Bool.{Bool, true}
@@ -6,7 +6,7 @@ use mathlib.Core.List.{List, [], _∷_, _++_, append-nil, map, map-append, zipWi
 use native.Mathlib.Numerals.{add-one}
 use native.Mathlib.Omega.{arith}
 use lib.ListN.{length, getD, take, drop, set}
-use lib.Seq.{drop-drop, append-snoc, take-suc-set}
+use lib.Seq.{append-snoc, take-suc-set}
 use lib.Ieee.{Float}
 use borrow.Author.Tests.{lt-ltb, le-ltb}
 use Rattle.labels.specs.declared.Cluster.{Cluster}
@@ -17,10 +17,11 @@ use Rattle.labels.specs.Group.{Group, chunkSpanAt, glyphRuns, coveredRuns, grou
 use Rattle.clusters.specs.Clusters.{clustersOf, floatsOf, wordsOf, indexesIn}
 use Rattle.clusters.proofs.Rows.{clusters-push}
 use Rattle.lookup.specs.Rows.{spansIn, glyphsIn}
-use Rattle.forming.specs.Groups.{glyphIn, groupIn}
+use Rattle.forming.specs.Groups.{glyphIn, groupIn, clustersIn}
 use Rattle.forming.proofs.Passing.{all-push}
-use Rattle.forming.proofs.FirstRun.{runLength, runs-split}
-use Rattle.forming.proofs.Glyphs.{spans-length, glyph-next, glyphs-end, glyphs-part, part-length}
+use Rattle.forming.proofs.FirstRun.{runLength}
+use Rattle.forming.proofs.Glyphs.{spans-length}
+use Rattle.forming.proofs.NextRun.{run-glyphs, runs-next, run-behind, runs-end}
 
 -- ---- the first of the runs that are left: kept if a span covers it
 
@@ -46,38 +47,42 @@ module _ (s places rows : List ℕ) (count : ℕ) where
   groups-start = refl
 
   pub groups-end : (i : ℕ) → count ≤ length rows → count ≤ i → groupsFrom i ≡ []
-  unfolding glyphRuns coveredRuns
-  groups-end i fit h = rw (glyphs-end s rows count i h fit)
+  unfolding coveredRuns
+  groups-end i fit h = rw (runs-end s rows count i fit h)
 
-  -- the run from i to end, and the first span that covers it
-  module _ (i end index k : ℕ) (fit : count ≤ length rows)
-      (ends : (end ≡ i + runLength (drop i (glyphsIn s rows count))) × (i < end) × (end ≤ count))
-      (is-index : index ≡ glyphIn s rows i .index) (is-span : k ≡ chunkSpanAt (spansIn s places) index) where
-    abbrev run : List Glyph
-    run = drop i (glyphsIn s rows end)
+  -- n groups are passed, and those from i on are left
+  abbrev pub Counted : ℕ → ℕ → Type 0
+  Counted n i = n + length (groupsFrom i) ≡ clustersIn s places rows count
 
-    next : run ≡ glyphIn s rows i ∷ drop (i + 1) (glyphsIn s rows end)
-    next = glyph-next s rows end i (ends .1) (omega arith)
+  pub groups-all : (n i : ℕ) → Counted n i → groupsFrom i ≡ [] → n ≡ clustersIn s places rows count
+  groups-all n i counted e = omega (arith, ap length e)
 
-    split : glyphRuns (drop i (glyphsIn s rows count)) ≡ run ∷ glyphRuns (drop end (glyphsIn s rows count))
-    split =
-        let gs = glyphsIn s rows count in
-        let m = runLength (drop i gs) in
-        runs-split m (glyph-next s rows count i (omega arith) fit) refl
-        ∙ (rw (glyphs-part s rows count end (ends .2) i m (ends .0), drop-drop m i gs, ← ends .0))
+-- the run from place i to end, and the first span that covers it: what `run_end`, `index_in` and `chunk_span_at` ensure
+pub record Run (s places rows : List ℕ) (count i end k : ℕ) : Type 0 where
+  pub fit : count ≤ length rows
+  pub ends : (end ≡ i + runLength (drop i (glyphsIn s rows count))) × (i < end) × (end ≤ count)
+  pub span : k ≡ chunkSpanAt (spansIn s places) (glyphIn s rows i .index)
 
-    behind : i + length run ≡ end
-    behind = rw (part-length s rows end i (omega arith)) (omega arith)
+module _ {s places rows : List ℕ} {count i end k : ℕ} (run : Run s places rows count i end k) where
+  pub groups-passed : length places ≤ k → groupsFrom s places rows count i ≡ groupsFrom s places rows count end
+  groups-passed h =
+      let next = run-glyphs s rows count i end (run .fit) (run .ends) in
+      rw (runs-next s rows count i end (run .fit) (run .ends))
+      (covered-passed (spansIn s places) i k _ next (run .span) (rw (spans-length s places) h) ∙ (rw (run-behind s rows count i end (run .fit) (run .ends))))
 
-    covers : k ≡ chunkSpanAt (spansIn s places) (glyphIn s rows i .index)
-    covers = is-span ∙ ap (chunkSpanAt (spansIn s places)) is-index
-
-    pub groups-kept : k < length places → groupsFrom i ≡ groupIn s rows i end k ∷ groupsFrom end
+  module _ (h : k < length places) where
+    pub groups-kept : groupsFrom s places rows count i ≡ groupIn s rows i end k ∷ groupsFrom s places rows count end
     unfolding groupIn
-    groups-kept h = rw split (covered-kept (spansIn s places) i k _ next covers (rw (spans-length s places) h) ∙ (rw behind))
+    groups-kept =
+        let next = run-glyphs s rows count i end (run .fit) (run .ends) in
+        rw (runs-next s rows count i end (run .fit) (run .ends))
+        (covered-kept (spansIn s places) i k _ next (run .span) (rw (spans-length s places) h) ∙ (rw (run-behind s rows count i end (run .fit) (run .ends))))
 
-    pub groups-passed : length places ≤ k → groupsFrom i ≡ groupsFrom end
-    groups-passed h = rw split (covered-passed (spansIn s places) i k _ next covers (rw (spans-length s places) h) ∙ (rw behind))
+    pub groups-room : (n : ℕ) → Counted s places rows count n i → n < clustersIn s places rows count
+    groups-room n counted = omega (arith, ap length groups-kept)
+
+    pub groups-turn : (n : ℕ) → Counted s places rows count n i → Counted s places rows count (n + 1) end
+    groups-turn n counted = omega (arith, ap length groups-kept)
 
 -- ---- n clusters are stored, and those of the groups that are left are still to be formed
 

@@ -15,7 +15,7 @@ ghost use Rattle.labels.specs.Group.{groups};
 ghost use Rattle.labels.specs.Cluster.{formGlyphClusters};
 ghost use Rattle.clusters.specs.Clusters.{clustersOf, indexesIn};
 ghost use Rattle.lookup.specs.Rows.{fontsIn, spansIn, glyphsIn};
-ghost use Rattle.forming.specs.Groups.{widthsOk};
+ghost use Rattle.forming.specs.Groups.{widthsOk, clustersIn};
 
 // Stores a cluster for each run that a span covers, from row 0 on; the result is how many.
 pub fn form_clusters(
@@ -27,12 +27,14 @@ pub fn form_clusters(
     floats: &mut [[f32; 10]],
     words: &mut [[u32; 6]],
 ) -> usize
-    requires { ⌜ (count ≤ length (now rows)) × (count ≤ length (now floats)) × (count ≤ length (now words)) × (count ≤ 1_024)
+    requires { ⌜ (count ≤ length (now rows)) × (clustersIn (now s) (now spans) (now rows) count ≤ length (now floats))
+        × (clustersIn (now s) (now spans) (now rows) count ≤ length (now words)) × (count ≤ 1_024)
         × (length (now spans) < 256) × (widthsOk (glyphsIn (now s) (now rows) count) ≡ true) ⌝ }
     ensures { λ r. ⌜ (clustersOf (now (floats .exit)) (now (words .exit)) r
         ≡ map (formGlyphClusters (fontsIn (now (s .entry)) fonts) (spansIn (now (s .entry)) (now (spans .entry))))
         (groups (spansIn (now (s .entry)) (now (spans .entry))) (glyphsIn (now (s .entry)) (now (rows .entry)) count)))
-        × (r ≤ count) × (all (λ (i : ℕ). ltb i 65536) (indexesIn (now (words .exit)) r) ≡ true) ⌝ }
+        × (r ≤ count) × (r ≡ clustersIn (now (s .entry)) (now (spans .entry)) (now (rows .entry)) count)
+        × (all (λ (i : ℕ). ltb i 65536) (indexesIn (now (words .exit)) r) ≡ true) ⌝ }
 {
     let mut n: usize = 0;
     let mut i: usize = 0;

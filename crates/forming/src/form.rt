@@ -2,10 +2,11 @@
 use crate::runs::place_in;
 use labels::Cluster;
 use lookup::font_in;
-use lookup::span_in;
+use lookup::size_in;
+use lookup::units_in;
 use measure::ascent;
 use measure::descent;
-use measure::measure_i32;
+use measure::measure_units;
 use parts::rows::glyph_at;
 use wire::read::i32_at;
 use wire::read::u8_at;
@@ -15,10 +16,11 @@ ghost use Prim.Native.Nat.{_<_, _≤_};
 ghost use lib.ListN.{length, drop};
 ghost use Rattle.labels.specs.Check.{unitsOk};
 ghost use Rattle.labels.specs.Decode.{glyphOf};
-ghost use Rattle.labels.specs.Kind.{glyphAdvance, sumAdvance, maxAdvance};
+ghost use Rattle.labels.specs.Single.{_+ᶠ_};
+ghost use Rattle.labels.specs.Kind.{greatest, glyphAdvance, sumAdvance, maxAdvance};
 ghost use Rattle.labels.specs.Cluster.{rounded, formGlyphClusters};
 ghost use Rattle.lookup.specs.Rows.{fontsIn, spansIn, glyphsIn};
-ghost use Rattle.forming.specs.Groups.{widthsOk, groupIn};
+ghost use Rattle.forming.specs.Groups.{widthsOk, glyphIn, groupIn};
 
 // The advance of the glyph whose row stands at `at`, of its own font.
 pub fn glyph_advance(s: &[u8], fonts: usize, at: usize, size: f32) -> f32
@@ -26,8 +28,8 @@ pub fn glyph_advance(s: &[u8], fonts: usize, at: usize, size: f32) -> f32
     ensures { λ r. ⌜ r ≡ glyphAdvance rounded (fontsIn (now (s .entry)) fonts) size (glyphOf (drop at (now (s .entry)))) ⌝ }
 {
     let row = wire::place::from(s, at);
-    let font = font_in(s, fonts, u8_at(row, 19));
-    measure_i32(font, size, i32_at(row, 15))
+    let units = units_in(s, fonts, u8_at(row, 19));
+    measure_units(units, size, i32_at(row, 15))
 }
 
 // The largest of some glyphs' advances, at least 0, and their sum.
@@ -36,6 +38,18 @@ struct Advances {
     advance: f32,
 }
 
+// With one glyph more, whose advance is `own`.
+fn with_glyph(a: Advances, own: f32) -> Advances
+    ensures { λ r. ⌜ (r .width ≡ greatest rounded (a .width) own) × (r .advance ≡ a .advance +ᶠ own) ⌝ }
+{
+    let width = if own > a.width { own } else { a.width };
+    Advances {
+        width: width,
+        advance: a.advance + own,
+    }
+}
+
+// Of the glyphs from place `from` to `end`. The first one's advance is given: its row is read already.
 fn glyph_advances(
     s: &[u8],
     fonts: usize,
@@ -43,26 +57,24 @@ fn glyph_advances(
     from: usize,
     end: usize,
     size: f32,
+    first: f32,
 ) -> Advances
-    requires { ⌜ (end ≤ length (now rows)) × (widthsOk (drop from (glyphsIn (now s) (now rows) end)) ≡ true) ⌝ }
+    requires { ⌜ (from < end) × (end ≤ length (now rows)) × (widthsOk (drop from (glyphsIn (now s) (now rows) end)) ≡ true)
+        × (first ≡ glyphAdvance rounded (fontsIn (now s) fonts) size (glyphIn (now s) (now rows) from)) ⌝ }
     ensures { λ r. ⌜ (r .width ≡ maxAdvance rounded (fontsIn (now (s .entry)) fonts) size (drop from (glyphsIn (now (s .entry)) (now (rows .entry)) end)))
         × (r .advance ≡ sumAdvance rounded (fontsIn (now (s .entry)) fonts) size (drop from (glyphsIn (now (s .entry)) (now (rows .entry)) end))) ⌝ }
 {
-    let mut width: f32 = 0.0;
-    let mut advance: f32 = 0.0;
-    let mut i = from;
+    let none = Advances {
+        width: 0.0,
+        advance: 0.0,
+    };
+    let mut all = with_glyph(none, first);
+    let mut i = from + 1;
     while i < end {
-        let glyph_width = glyph_advance(s, fonts, place_in(rows, i), size);
-        advance += glyph_width;
-        if glyph_width > width {
-            width = glyph_width;
-        }
+        all = with_glyph(all, glyph_advance(s, fonts, place_in(rows, i), size));
         i += 1;
     }
-    Advances {
-        width: width,
-        advance: advance,
-    }
+    all
 }
 
 // The cluster of the glyphs from place `from` to `end`, which the span of place `k` covers.
@@ -80,10 +92,11 @@ pub fn form_glyph_clusters(
     ensures { λ r. ⌜ (r ≡ formGlyphClusters (fontsIn (now (s .entry)) fonts) (spansIn (now (s .entry)) (now (spans .entry)))
         (groupIn (now (s .entry)) (now (rows .entry)) from end k)) × (r .index < 65_536) ⌝ }
 {
-    let size = span_in(s, spans, k).size;
-    let advances = glyph_advances(s, fonts, rows, from, end, size);
+    let size = size_in(s, spans, k);
     let first = glyph_at(s, place_in(rows, from));
     let font = font_in(s, fonts, first.font);
+    let own = measure_units(font.units, size, first.width);
+    let advances = glyph_advances(s, fonts, rows, from, end, size, own);
     let up = ascent(font, size);
     let down = descent(font, size);
     Cluster {

@@ -2,6 +2,7 @@
 // `process_chunk`). A merged list is `rows`, of which the first `count` are the places of glyph rows in the record `s`; `spans` are the
 // places of the chunk's spans.
 pub mod chunk;
+pub mod few;
 pub mod form;
 pub mod runs;
 pub mod spans;

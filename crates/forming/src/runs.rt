@@ -1,6 +1,5 @@
 // Runs of neighbours of one byte index in a merged list (the Rust's `GlyphClusters`).
-use wire::place::from;
-use wire::read::u16_at;
+use parts::rows::glyph_index_at;
 ghost use mathlib.Core.Path.{_≡_};
 ghost use mathlib.Core.List.{[]};
 ghost use Prim.Native.Nat.{_+_, _<_, _≤_};
@@ -22,7 +21,7 @@ pub fn index_in(s: &[u8], rows: &[u32], i: usize) -> u16
     requires { ⌜ i < length (now rows) ⌝ }
     ensures { λ r. ⌜ r ≡ glyphIn (now (s .entry)) (now (rows .entry)) i .index ⌝ }
 {
-    u16_at(from(s, place_in(rows, i)), 4)
+    glyph_index_at(s, place_in(rows, i))
 }
 
 // Where the run ends that begins at place `i`.

@@ -1,3 +1,6 @@
 pub mod Orders
+pub mod Last
+pub mod Places
 pub mod Tests
 pub mod Answers
+pub mod Chain

@@ -1,9 +1,10 @@
 -- Spans in order: one turn and the end of the walk over them. Assumes nothing.
-use Prim.Native.Nat.{ℕ, zero, suc, _-_, _<_, _≤_}
-use mathlib.Core.Path.{_≡_, refl, ap, _∙_}
+use Prim.Native.Nat.{ℕ, zero, suc, _+_, _-_, _<_, _≤_}
+use mathlib.Core.Path.{_≡_, refl, sym, ap, _∙_}
 use mathlib.Core.Bool.{Bool, true, false, _&&_}
 use mathlib.Core.List.{List, _∷_, map}
 use lib.ListN.{length, drop}
+use lib.Seq.{drop-drop}
 use lib.Dec.{leb}
 use Rattle.labels.specs.Bytes.{be, rows}
 use Rattle.labels.specs.Job.{SpanParts}
@@ -14,6 +15,10 @@ use Rattle.parts.proofs.Walks.{rows-turn, rows-done}
 -- a span from `start` to `end` stands behind `from`, in a text of n bytes
 abbrev pub inOrder : ℕ → ℕ → ℕ → ℕ → Bool
 inOrder n from start end = leb from start && leb start end && leb end n
+
+pub ordered-done : (n from left : ℕ) (bs : List ℕ) → left ≤ 0 → ordered n from (rows spanSize spanOf left bs) ≡ true
+unfolding ordered
+ordered-done n from left bs h = rw (rows-done spanSize spanOf left bs h)
 
 -- the walk stands at p of s; the span there begins with the bytes `span`
 module _ (n from start end left p : ℕ) (s span : List ℕ) (span-is : span ≡ drop p s) (start-is : start ≡ be 2 span) (end-is : end ≡ be 2 (drop 2 span)) (h : 0 < left) where
@@ -28,9 +33,12 @@ module _ (n from start end left p : ℕ) (s span : List ℕ) (span-is : span ≡
       → ordered n end (rows spanSize spanOf (left - 1) (drop q s)) ≡ ordered n from (rows spanSize spanOf left (drop p s))
   ordered-on passes k q k-is q-is = rw (turn, passes, q-is, k-is, span-is)
 
-pub ordered-done : (n from left : ℕ) (bs : List ℕ) → left ≤ 0 → ordered n from (rows spanSize spanOf left bs) ≡ true
-unfolding ordered
-ordered-done n from left bs h = rw (rows-done spanSize spanOf left bs h)
+  -- no place is taken behind the last
+  pub ordered-last : inOrder n from start end ≡ true → left - 1 ≤ 0 → ordered n end (rows spanSize spanOf (left - 1) (drop p s)) ≡ ordered n from (rows spanSize spanOf left (drop p s))
+  ordered-last passes last =
+      ordered-done n end (left - 1) (drop p s) last
+      ∙ sym (ordered-done n end (left - 1) (drop (p + spanSize span) s) last)
+      ∙ ordered-on passes (spanSize span) (p + spanSize span) refl (sym (drop-drop (spanSize span) p s))
 
 -- the spans of a chunk
 spans-rows : (n : ℕ) (bs : List ℕ) → map (λ (p : SpanParts). p .span) (rows spanSize partsOf n bs) ≡ rows spanSize spanOf n bs

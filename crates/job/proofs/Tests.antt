@@ -1,18 +1,21 @@
 -- The tests of a job's parts, as the code goes through them: walks over rows, spans and chunks. Assumes nothing.
-use Prim.Native.Nat.{ℕ, _+_, _/_, _%_}
-use mathlib.Core.Path.{_≡_}
-use mathlib.Core.Bool.{Bool, not, _&&_, _||_, and-assoc, and-true}
+use Prim.Native.Nat.{ℕ, _+_, _-_, _/_, _%_}
+use mathlib.Core.Path.{_≡_, refl}
+use mathlib.Core.Bool.{Bool, true, false, not, _&&_, _||_, and-assoc, and-true}
 use mathlib.Core.List.{List}
-use lib.ListN.{length, take, drop}
-use lib.Dec.{eqb, leb}
+use native.Mathlib.Omega.{arith}
+use borrow.Author.Tests.{ltb-true, ltb-false, eqb-true, eqb-false, eq-eqb, ne-eqb}
+use lib.ListN.{length, take, drop, length-drop}
+use lib.Dec.{eqb, leb, ltb}
 use Rattle.labels.specs.Lists.{all, every}
-use Rattle.labels.specs.Bytes.{be, float, sizes, each}
-use Rattle.labels.specs.Job.{Chunk}
+use Rattle.labels.specs.Bytes.{be, float, sizes, rows, each}
 use Rattle.labels.specs.Decode.{fontBytes, glyphBytes, shiftBytes, floatSize, fontOf, glyphOf, shiftOf, spanOf, shiftCount, glyphsAt, glyphCount, spanSize, partsOf, textSize, spansAt, chunkFits, spanCount, spanBytes, chunkSize, chunkOf, listOf, listFits, fontCount, dxAt, dyAt, rotateAt, chunksAt, shaped, chunkCount, chunkBytes, jobOf}
 use Rattle.labels.specs.Utf8.{isUtf8}
-use Rattle.labels.specs.Check.{floatOk, flaggedOk, fontOk, glyphOk, shiftOk, spanOk, partsOk, chunkOk, valuesOk, textOk}
+use Rattle.labels.specs.Check.{afterVersion, floatOk, flaggedOk, fontOk, glyphOk, shiftOk, spanOk, partsOk, chunkOk, valuesOk, textOk}
 use Rattle.laws.proofs.Records.{length-rows}
 use Rattle.job.specs.Walk.{indexOk, spanPasses, chunkPasses, countsFit, listsOk}
+use Rattle.job.specs.Answer.{placesOf}
+use Rattle.job.proofs.Places.{behind-version}
 use Rattle.parts.specs.Head.{headOf}
 use Rattle.job.specs.declared.walk.SpanCheck.the-variants as S
 use Rattle.job.specs.declared.walk.ChunkCheck.the-variants as C
@@ -54,37 +57,60 @@ pub fit-test : (text bs : List ℕ) → chunkFits bs
 unfolding chunkFits every
 fit-test text bs = simp (and-assoc, and-true)
 
-pub counts-test : (bs : List ℕ) → countsFit bs
-    ≡ (leb (fontCount bs) 16 && listFits (drop (dxAt bs) bs) && listFits (drop (dyAt bs) bs) && listFits (drop (rotateAt bs) bs) && leb (chunkCount bs) 16)
-unfolding countsFit every
-counts-test bs = simp (and-assoc, and-true)
-
-pub shape-test : (bs : List ℕ) → shaped bs
-    ≡ (countsFit bs
-    && each chunkSize (chunkPasses C.Shape 0) (chunkCount bs) (chunkBytes bs)
-    && eqb (chunksAt bs + 1 + sizes chunkSize (chunkCount bs) (chunkBytes bs)) (length bs))
-unfolding shaped countsFit every
-shape-test bs = simp (and-assoc, and-true)
-
--- a test of all the chunks
-pub chunks-test : (p : Chunk → Bool) (bs : List ℕ) → all p (jobOf bs .chunks) ≡ each chunkSize (λ b. p (chunkOf b)) (chunkCount bs) (chunkBytes bs)
-unfolding jobOf
-chunks-test p bs = all-each chunkSize chunkOf p (chunkCount bs) (chunkBytes bs)
-
-pub values-test : (bs : List ℕ) → valuesOk (jobOf bs)
-    ≡ (leb (be 1 bs) 1
-    && each (λ b. fontBytes) (λ b. fontOk (fontOf b)) (fontCount bs) (drop 2 bs)
-    && listsOk (jobOf bs)
-    && each chunkSize (chunkPasses C.Values (fontCount bs)) (chunkCount bs) (chunkBytes bs))
-unfolding valuesOk jobOf every
-values-test bs =
-    rw (
-      length-rows (λ b. fontBytes) fontOf (fontCount bs) (drop 2 bs),
-      all-each (λ b. fontBytes) fontOf fontOk (fontCount bs) (drop 2 bs),
-      all-each chunkSize chunkOf (chunkOk (fontCount bs)) (chunkCount bs) (chunkBytes bs),
-    )
-    (simp (and-assoc, and-true))
-
 pub text-test : (bs : List ℕ) → textOk (chunkOf bs) ≡ (isUtf8 (chunkOf bs .text) && each spanSize (spanPasses S.Text 0 (chunkOf bs .text)) (spanCount bs) (spanBytes bs))
 unfolding textOk chunkOf
 text-test bs = rw (all-each spanSize partsOf (λ p. all (indexOk (take (textSize bs) (drop 13 bs))) (p .glyphs)) (spanCount bs) (spanBytes bs))
+
+-- ---- the end of the chunks: `size` bytes behind the chunk count at `at`, in the bytes after the version
+
+ends-numbers : (at size n : ℕ) → eqb (at + 1 + size) (n - 5) ≡ (ltb (5 + at) n && eqb size (n - 5 - (at + 1)))
+ends-numbers at size n = go (ltb (5 + at) n) refl (eqb size (n - 5 - (at + 1))) refl
+  where
+    go : (here : Bool) → ltb (5 + at) n ≡ here → (fills : Bool) → eqb size (n - 5 - (at + 1)) ≡ fills → eqb (at + 1 + size) (n - 5) ≡ (here && fills)
+    go false h fills e = ne-eqb (at + 1 + size) (n - 5) (λ same. omega (arith, ltb-false (5 + at) n h))
+    go true h true e = eq-eqb (at + 1 + size) (n - 5) (omega (arith, ltb-true (5 + at) n h, eqb-true size (n - 5 - (at + 1)) e))
+    go true h false e = ne-eqb (at + 1 + size) (n - 5) (λ same. eqb-false size (n - 5 - (at + 1)) e (omega (arith, ltb-true (5 + at) n h)))
+
+ends-test : (s : List ℕ) (at size : ℕ) → eqb (at + 1 + size) (length (afterVersion s)) ≡ (ltb (5 + at) (length s) && eqb size (length (drop (at + 1) (afterVersion s))))
+ends-test s at size = rw (length-drop (at + 1) (afterVersion s), length-drop 5 s) (ends-numbers at size (length s))
+
+-- ---- a record s, by the places of its job
+
+module _ (s : List ℕ) where
+  abbrev rest : List ℕ
+  rest = afterVersion s
+
+  pub counts-test : countsFit rest
+      ≡ (leb (placesOf s .fonts) 16 && listFits (drop (placesOf s .dx) s) && listFits (drop (placesOf s .dy) s) && listFits (drop (placesOf s .rotate) s) && leb (chunkCount rest) 16)
+  unfolding countsFit every placesOf
+  counts-test = rw (behind-version s (dxAt rest), behind-version s (dyAt rest), behind-version s (rotateAt rest)) (simp (and-assoc, and-true))
+
+  pub shape-test : shaped rest
+      ≡ (countsFit rest
+      && each chunkSize (chunkPasses C.Shape 0) (chunkCount rest) (chunkBytes rest)
+      && (ltb (placesOf s .chunks) (length s) && eqb (sizes chunkSize (chunkCount rest) (chunkBytes rest)) (length (chunkBytes rest))))
+  unfolding shaped countsFit every placesOf chunkBytes
+  shape-test = rw (ends-test s (chunksAt rest) (sizes chunkSize (chunkCount rest) (chunkBytes rest))) (simp (and-assoc, and-true))
+
+  pub lists-test : listsOk (jobOf rest) ≡ (all floatOk (listOf (drop (placesOf s .dx) s)) && all floatOk (listOf (drop (placesOf s .dy) s)) && all floatOk (listOf (drop (placesOf s .rotate) s)))
+  unfolding jobOf placesOf
+  lists-test = rw (behind-version s (dxAt rest), behind-version s (dyAt rest), behind-version s (rotateAt rest))
+
+  pub values-test : valuesOk (jobOf rest)
+      ≡ (leb (placesOf s .mode) 1
+      && each (λ b. fontBytes) (λ b. fontOk (fontOf b)) (placesOf s .fonts) (drop 7 s)
+      && listsOk (jobOf rest)
+      && each chunkSize (chunkPasses C.Values (placesOf s .fonts)) (chunkCount rest) (chunkBytes rest))
+  unfolding valuesOk jobOf every placesOf
+  values-test =
+      rw (
+        length-rows (λ b. fontBytes) fontOf (fontCount rest) (drop 2 rest),
+        all-each (λ b. fontBytes) fontOf fontOk (fontCount rest) (drop 2 rest),
+        all-each chunkSize chunkOf (chunkOk (fontCount rest)) (chunkCount rest) (chunkBytes rest),
+        behind-version s 2,
+      )
+      (simp (and-assoc, and-true))
+
+pub chunks-are : (bs : List ℕ) → jobOf bs .chunks ≡ rows chunkSize chunkOf (chunkCount bs) (chunkBytes bs)
+unfolding jobOf
+chunks-are bs = refl

@@ -4,20 +4,19 @@ use crate::values::values_ok;
 use crate::walk::ChunkCheck;
 use crate::walk::chunks_pass;
 use labels::Job;
-use parts::sizes::chunk_bytes;
-use parts::sizes::chunk_count;
-use parts::sizes::chunks_at;
-use parts::sizes::dx_at;
-use parts::sizes::dy_at;
+use parts::sizes::CHUNK_COUNT_BYTES;
+use parts::sizes::FONT_BYTES;
+use parts::sizes::FONTS_AT;
 use parts::sizes::font_count;
-use parts::sizes::rotate_at;
+use parts::sizes::list_size;
 use wire::place::from;
 use wire::read::byte_at;
 use wire::read::u8_at;
 use wire::read::u32_at;
 ghost use mathlib.Core.Path.{_≡_};
 ghost use Rattle.labels.specs.Lists.{all};
-ghost use Rattle.labels.specs.Decode.{jobOf};
+ghost use Rattle.labels.specs.Bytes.{rows};
+ghost use Rattle.labels.specs.Decode.{chunkSize, chunkOf};
 ghost use Rattle.labels.specs.Check.{lengthOk, versionOk, textOk, spansOk};
 ghost use Rattle.job.specs.Answer.{numberOf, placesOf, answerOf};
 
@@ -50,31 +49,36 @@ pub fn version_ok(bytes: &[u8]) -> bool
     byte_at(bytes, VERSION_AT) == JOB_VERSION
 }
 
-// `job` is what follows the version, here and below.
-pub fn texts_ok(job: &[u8]) -> bool
-    ensures { λ r. ⌜ r ≡ all textOk (jobOf (now (job .entry)) .chunks) ⌝ }
+// `n` chunks, one after the other, here and below.
+pub fn texts_ok(chunks: &[u8], n: usize) -> bool
+    ensures { λ r. ⌜ r ≡ all textOk (rows chunkSize chunkOf n (now (chunks .entry))) ⌝ }
 {
-    chunks_pass(ChunkCheck::Text, 0, chunk_bytes(job), chunk_count(job))
+    chunks_pass(ChunkCheck::Text, 0, chunks, n)
 }
 
-pub fn orders_ok(job: &[u8]) -> bool
-    ensures { λ r. ⌜ r ≡ all spansOk (jobOf (now (job .entry)) .chunks) ⌝ }
+pub fn orders_ok(chunks: &[u8], n: usize) -> bool
+    ensures { λ r. ⌜ r ≡ all spansOk (rows chunkSize chunkOf n (now (chunks .entry))) ⌝ }
 {
-    chunks_pass(ChunkCheck::Spans, 0, chunk_bytes(job), chunk_count(job))
+    chunks_pass(ChunkCheck::Spans, 0, chunks, n)
 }
 
-// Where the parts of the record's job stand.
+// Where the parts of the record's job stand, each behind the one before it.
 pub fn places(bytes: &[u8]) -> Job
     ensures { λ r. ⌜ r ≡ placesOf (now (bytes .entry)) ⌝ }
 {
-    let job = from(bytes, AFTER_VERSION);
+    let rest = from(bytes, AFTER_VERSION);
+    let fonts = font_count(rest);
+    let dx = AFTER_VERSION + FONTS_AT + fonts * FONT_BYTES;
+    let dy = dx + list_size(from(bytes, dx));
+    let rotate = dy + list_size(from(bytes, dy));
+    let chunks = rotate + list_size(from(bytes, rotate));
     Job {
-        mode: u8_at(job, 0),
-        fonts: font_count(job),
-        dx: AFTER_VERSION + dx_at(job),
-        dy: AFTER_VERSION + dy_at(job),
-        rotate: AFTER_VERSION + rotate_at(job),
-        chunks: AFTER_VERSION + chunks_at(job),
+        mode: u8_at(rest, 0),
+        fonts,
+        dx,
+        dy,
+        rotate,
+        chunks,
     }
 }
 
@@ -87,20 +91,24 @@ pub fn check(bytes: &[u8]) -> Checked
     if !version_ok(bytes) {
         return Checked::Refused(2);
     }
-    let job = from(bytes, AFTER_VERSION);
-    if !is_shaped(job) {
+    let job = places(bytes);
+    // from the chunk count on
+    let counted = from(bytes, job.chunks);
+    let n = u8_at(counted, 0) as usize;
+    let chunks = from(counted, CHUNK_COUNT_BYTES);
+    if !is_shaped(bytes, job, chunks, n) {
         return Checked::Refused(3);
     }
-    if !values_ok(job) {
+    if !values_ok(bytes, job, chunks, n) {
         return Checked::Refused(4);
     }
-    if !texts_ok(job) {
+    if !texts_ok(chunks, n) {
         return Checked::Refused(5);
     }
-    if !orders_ok(job) {
+    if !orders_ok(chunks, n) {
         return Checked::Refused(6);
     }
-    Checked::Accepted(places(bytes))
+    Checked::Accepted(job)
 }
 
 // Document 01's number for a record: 0 where its job is accepted.

@@ -26,8 +26,10 @@ pub fn spans_ordered(spans: &[u8], n: usize, length: usize) -> bool
             return false;
         }
         previous = end;
-        p = after(spans, p, span_size(span));
         left -= 1;
+        if 0 < left {
+            p = after(spans, p, span_size(span));
+        }
     }
     true
 }

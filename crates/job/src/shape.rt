@@ -4,18 +4,10 @@ use crate::walk::SpanCheck;
 use crate::walk::chunks_pass;
 use crate::walk::spans_pass;
 use labels::Job;
-use parts::sizes::CHUNK_COUNT_BYTES;
 use parts::sizes::SPAN_COUNT_BYTES;
-use parts::sizes::chunk_bytes;
-use parts::sizes::chunk_count;
-use parts::sizes::chunks_at;
 use parts::sizes::chunks_size;
-use parts::sizes::dx_at;
-use parts::sizes::dy_at;
-use parts::sizes::font_count;
 use parts::sizes::glyph_count;
 use parts::sizes::list_size;
-use parts::sizes::rotate_at;
 use parts::sizes::shift_count;
 use parts::sizes::span_bytes;
 use parts::sizes::span_count;
@@ -26,8 +18,11 @@ use parts::sizes::text_size;
 use wire::place::from;
 use wire::read::u16_at;
 ghost use mathlib.Core.Path.{_≡_};
-ghost use Rattle.labels.specs.Decode.{spanFits, chunkFits, listFits, shaped};
+ghost use Prim.Native.Nat.{_<_};
+ghost use Rattle.labels.specs.Decode.{spanFits, chunkFits, listFits, chunkBytes, chunkCount, shaped};
+ghost use Rattle.labels.specs.Check.{afterVersion};
 ghost use Rattle.job.specs.Walk.{countsFit};
+ghost use Rattle.job.specs.Answer.{placesOf};
 
 pub fn span_fits(span: &[u8]) -> bool
     ensures { λ r. ⌜ r ≡ spanFits (now (span .entry)) ⌝ }
@@ -56,27 +51,28 @@ pub fn list_fits(list: &[u8]) -> bool
     (n <= Job::LIST) & (list_size(list) <= list.len())
 }
 
-// `job` is what follows the version, here and below.
-pub fn counts_fit(job: &[u8]) -> bool
-    ensures { λ r. ⌜ r ≡ countsFit (now (job .entry)) ⌝ }
+// `job` says where the parts of the record stand, and `n` is the chunk count, here and below.
+pub fn counts_fit(bytes: &[u8], job: Job, n: usize) -> bool
+    requires { ⌜ (job ≡ placesOf (now bytes)) × (n ≡ chunkCount (afterVersion (now bytes))) ⌝ }
+    ensures { λ r. ⌜ r ≡ countsFit (afterVersion (now (bytes .entry))) ⌝ }
 {
-    (font_count(job) <= Job::FONTS)
-        & list_fits(from(job, dx_at(job)))
-        & list_fits(from(job, dy_at(job)))
-        & list_fits(from(job, rotate_at(job)))
-        & (chunk_count(job) <= Job::CHUNKS)
+    (job.fonts <= Job::FONTS)
+        & list_fits(from(bytes, job.dx))
+        & list_fits(from(bytes, job.dy))
+        & list_fits(from(bytes, job.rotate))
+        & (n <= Job::CHUNKS)
 }
 
-pub fn is_shaped(job: &[u8]) -> bool
-    ensures { λ r. ⌜ r ≡ shaped (now (job .entry)) ⌝ }
+// `chunks` are the bytes from the first chunk on. The chunk count has to be there, and the chunks to end with the record.
+pub fn is_shaped(bytes: &[u8], job: Job, chunks: &[u8], n: usize) -> bool
+    requires { ⌜ (job ≡ placesOf (now bytes)) × (now chunks ≡ chunkBytes (afterVersion (now bytes))) × (n ≡ chunkCount (afterVersion (now bytes))) × (n < 256) ⌝ }
+    ensures { λ r. ⌜ r ≡ shaped (afterVersion (now (bytes .entry))) ⌝ }
 {
-    if !counts_fit(job) {
+    if !counts_fit(bytes, job, n) {
         return false;
     }
-    let n = chunk_count(job);
-    let chunks = chunk_bytes(job);
     if !chunks_pass(ChunkCheck::Shape, 0, chunks, n) {
         return false;
     }
-    chunks_at(job) + CHUNK_COUNT_BYTES + chunks_size(chunks, n) == job.len()
+    (job.chunks < bytes.len()) & (chunks_size(chunks, n) == chunks.len())
 }

@@ -3,6 +3,7 @@ use crate::walk::SpanCheck;
 use crate::walk::spans_pass;
 use fields::utf8::is_utf8;
 use fields::utf8::starts_at;
+use parts::rows::glyph_index_at;
 use parts::sizes::GLYPH_BYTES;
 use parts::sizes::GLYPH_COUNT_BYTES;
 use parts::sizes::glyph_count;
@@ -26,8 +27,7 @@ pub fn rows_start(text: &[u8], glyphs: &[u8], n: usize) -> bool
     let mut p: usize = 0;
     let mut left = n;
     while 0 < left {
-        let g = parts::rows::glyph_at(glyphs, p);
-        if !starts_at(text, g.index as usize) {
+        if !starts_at(text, glyph_index_at(glyphs, p) as usize) {
             return false;
         }
         p = after(glyphs, p, GLYPH_BYTES);

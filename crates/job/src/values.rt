@@ -1,4 +1,5 @@
 // Check 4: each field has one of its values.
+use crate::check::AFTER_VERSION;
 use crate::walk::ChunkCheck;
 use crate::walk::RowKind;
 use crate::walk::SpanCheck;
@@ -8,31 +9,26 @@ use crate::walk::spans_pass;
 use fields::NO_FONT;
 use fields::flagged_ok;
 use fields::span_ok;
+use labels::Job;
 use parts::rows::head_at;
 use parts::rows::span_at;
 use parts::sizes::FONTS_AT;
 use parts::sizes::GLYPH_COUNT_BYTES;
 use parts::sizes::LIST_COUNT_BYTES;
 use parts::sizes::SHIFTS_AT;
-use parts::sizes::chunk_bytes;
-use parts::sizes::chunk_count;
-use parts::sizes::dx_at;
-use parts::sizes::dy_at;
-use parts::sizes::font_count;
 use parts::sizes::glyph_count;
 use parts::sizes::glyphs_at;
-use parts::sizes::rotate_at;
 use parts::sizes::shift_count;
 use parts::sizes::span_bytes;
 use parts::sizes::text_of;
 use wire::place::from;
-use wire::read::u8_at;
 use wire::read::u16_at;
 ghost use mathlib.Core.Path.{_≡_};
 ghost use Rattle.labels.specs.Lists.{all};
-ghost use Rattle.labels.specs.Decode.{partsOf, chunkOf, listOf, jobOf};
-ghost use Rattle.labels.specs.Check.{floatOk, partsOk, chunkOk, valuesOk};
+ghost use Rattle.labels.specs.Decode.{partsOf, chunkOf, listOf, chunkBytes, chunkCount, jobOf};
+ghost use Rattle.labels.specs.Check.{afterVersion, floatOk, partsOk, chunkOk, valuesOk};
 ghost use Rattle.job.specs.Walk.{listsOk};
+ghost use Rattle.job.specs.Answer.{placesOf};
 
 // A span with its shifts and glyphs. A span with no font has no glyphs.
 pub fn parts_ok(fonts: usize, span: &[u8]) -> bool
@@ -74,27 +70,22 @@ pub fn list_ok(list: &[u8]) -> bool
     rows_ok(RowKind::Float, 0, from(list, LIST_COUNT_BYTES), n)
 }
 
-// The lists dx, dy and rotate.
-pub fn lists_ok(job: &[u8]) -> bool
-    ensures { λ r. ⌜ r ≡ listsOk (jobOf (now (job .entry))) ⌝ }
+// The lists dx, dy and rotate. `job` says where the parts of the record stand, here and below.
+pub fn lists_ok(bytes: &[u8], job: Job) -> bool
+    requires { ⌜ job ≡ placesOf (now bytes) ⌝ }
+    ensures { λ r. ⌜ r ≡ listsOk (jobOf (afterVersion (now (bytes .entry)))) ⌝ }
 {
-    list_ok(from(job, dx_at(job)))
-        & list_ok(from(job, dy_at(job)))
-        & list_ok(from(job, rotate_at(job)))
+    list_ok(from(bytes, job.dx)) & list_ok(from(bytes, job.dy)) & list_ok(from(bytes, job.rotate))
 }
 
-// `job` is what follows the version.
-pub fn values_ok(job: &[u8]) -> bool
-    ensures { λ r. ⌜ r ≡ valuesOk (jobOf (now (job .entry))) ⌝ }
+// `chunks` are the bytes from the first chunk on, and `n` is the chunk count.
+pub fn values_ok(bytes: &[u8], job: Job, chunks: &[u8], n: usize) -> bool
+    requires { ⌜ (job ≡ placesOf (now bytes)) × (now chunks ≡ chunkBytes (afterVersion (now bytes))) × (n ≡ chunkCount (afterVersion (now bytes))) ⌝ }
+    ensures { λ r. ⌜ r ≡ valuesOk (jobOf (afterVersion (now (bytes .entry)))) ⌝ }
 {
-    let fonts = font_count(job);
-    (u8_at(job, 0) <= 1)
-        & rows_ok(RowKind::Font, fonts, from(job, FONTS_AT), fonts)
-        & lists_ok(job)
-        & chunks_pass(
-            ChunkCheck::Values,
-            fonts,
-            chunk_bytes(job),
-            chunk_count(job),
-        )
+    let fonts = from(bytes, AFTER_VERSION + FONTS_AT);
+    (job.mode <= 1)
+        & rows_ok(RowKind::Font, job.fonts, fonts, job.fonts)
+        & lists_ok(bytes, job)
+        & chunks_pass(ChunkCheck::Values, job.fonts, chunks, n)
 }

@@ -9,7 +9,8 @@ use wire::read::f32_at;
 ghost use mathlib.Core.Path.{_≡_};
 ghost use lib.ListN.{drop};
 ghost use Rattle.labels.specs.Bytes.{each};
-ghost use Rattle.labels.specs.Decode.{spanSize, chunkSize};
+ghost use Rattle.labels.specs.Decode.{glyphOf, spanSize, chunkSize};
+ghost use Rattle.labels.specs.Check.{glyphOk};
 ghost use Rattle.job.specs.Walk.{rowSize, rowOk, spanPasses, chunkPasses};
 
 // Rows of a fixed size whose values are tested.
@@ -45,7 +46,17 @@ pub fn row_size(kind: RowKind) -> usize
     }
 }
 
-// `fonts` is the font count.
+// The row of a glyph; `fonts` is the font count. A row that is whole, as nearly every one is, is read in place: only the fields that are tested.
+fn glyph_row_ok(fonts: usize, s: &[u8], at: usize) -> bool
+    ensures { λ r. ⌜ r ≡ glyphOk fonts (glyphOf (drop at (now (s .entry)))) ⌝ }
+{
+    let row = from(s, at);
+    if GLYPH_BYTES <= row.len() {
+        return fields::glyph_ok(fonts, parts::rows::glyph_of(row));
+    }
+    fields::glyph_ok(fonts, parts::rows::glyph_at(s, at))
+}
+
 pub fn row_ok(kind: RowKind, fonts: usize, s: &[u8], at: usize) -> bool
     ensures { λ r. ⌜ r ≡ rowOk kind fonts (drop at (now (s .entry))) ⌝ }
 {
@@ -56,7 +67,7 @@ pub fn row_ok(kind: RowKind, fonts: usize, s: &[u8], at: usize) -> bool
             let number = parts::rows::shift_number_at(s, at);
             fields::shift_ok(parts::rows::shift_kind_at(s, at), number)
         }
-        RowKind::Glyph => fields::glyph_ok(fonts, parts::rows::glyph_at(s, at)),
+        RowKind::Glyph => glyph_row_ok(fonts, s, at),
     }
 }
 
@@ -97,8 +108,10 @@ pub fn spans_pass(check: SpanCheck, fonts: usize, text: &[u8], spans: &[u8], n: 
         if !span_passes(check, fonts, text, span) {
             return false;
         }
-        p = after(spans, p, parts::sizes::span_size(span));
         left -= 1;
+        if 0 < left {
+            p = after(spans, p, parts::sizes::span_size(span));
+        }
     }
     true
 }
@@ -124,8 +137,10 @@ pub fn chunks_pass(check: ChunkCheck, fonts: usize, chunks: &[u8], n: usize) -> 
         if !chunk_passes(check, fonts, chunk) {
             return false;
         }
-        p = after(chunks, p, parts::sizes::chunk_size(chunk));
         left -= 1;
+        if 0 < left {
+            p = after(chunks, p, parts::sizes::chunk_size(chunk));
+        }
     }
     true
 }

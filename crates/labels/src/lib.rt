@@ -220,9 +220,11 @@ pub const UNSPACED: [u32; 16] = [
 pub fn script_supports_letter_spacing(tag: u32) -> bool
     ensures { λ r. ⌜ r ≡ scriptSupportsLetterSpacing tag ⌝ }
 {
+    // A constant is copied where it stands: once, not in each turn.
+    let tags = UNSPACED;
     let mut i: usize = 0;
     while i < 16 {
-        if UNSPACED[i] == tag {
+        if tags[i] == tag {
             return false;
         }
         i += 1;

@@ -18,7 +18,7 @@ use Rattle.job.specs.Answer.{placesOf, answerOf}
 use Rattle.job.specs.declared.check.Checked.the-variants as C
 use Rattle.job.proofs.Answers.{given-where-accepted, accepted-where-given}
 use Rattle.layout.specs.Checked.{CheckedJob}
-use Rattle.layout.specs.Steps.{jobIn}
+use Rattle.laid_chunk.specs.Steps.{jobIn}
 
 module _ (s : List ℕ) (job : Job) (e : answerOf s ≡ C.Accepted job) where
   pub job-given : checked s ≡ given (jobIn s)

@@ -1,7 +1,6 @@
--- What the call leaves, from what its passes leave. Assumes nothing.
+-- What the call leaves, from where its rows stand. Assumes nothing.
 use Prim.Native.Nat.{ℕ, _+_, _-_, _≤_, _<_}
 use mathlib.Core.Path.{_≡_, refl, sym, ap, subst, _∙_}
-use mathlib.Core.Bool.{Bool, true, false, cond}
 use mathlib.Core.List.{List, [], _∷_, _++_, flatMap, foldl, append-assoc}
 use native.Mathlib.Omega.{arith}
 use borrow.Author.Tests.{le-leb, lt-leb}
@@ -20,23 +19,11 @@ use Rattle.labels.specs.declared.Cluster.{Cluster}
 use Rattle.labels.specs.Check.{checked}
 use Rattle.labels.specs.Layout.{LaidChunk, Progress, beginning, rowsOf, adjustedClusters, placeChunk, layoutChunk, layoutJob, layoutRows, fitting, layoutOf}
 use Rattle.wire.specs.Splice.{splice}
-use Rattle.layout.specs.declared.progress.Reached.{Reached}
 use Rattle.layout.specs.declared.Answered.the-variants as A
-use Rattle.layout.specs.Steps.{jobIn, laidBytes, reachedFrom, putWithin, putFrom, jobLaid, fitsIn, answered}
+use Rattle.laid_chunk.specs.Steps.{jobIn, laidBytes, putFrom}
+use Rattle.layout.specs.Steps.{jobLaid, answered}
 use Rattle.layout.specs.Called.{Answers}
-
--- how long the answer is, from where the layout stands at the end
-module _ (st : Progress) {r : Reached} (e : r ≡ reachedFrom answerHeadSize st) where
-  pub reached-length : r .length ≡ answerHeadSize + length (flatMap chunkRowBytes (rowsOf (st .chunks)))
-  unfolding reachedFrom laidBytes
-  reached-length = ap (λ (q : Reached). q .length) e
-
-  pub longer : {room : ℕ} → room < r .length → room < answerHeadSize + length (flatMap chunkRowBytes (rowsOf (st .chunks)))
-  longer h = omega (arith, reached-length)
-
-  pub fits-of : {room : ℕ} {o : Outcome Progress} → o ≡ given st → r .length ≤ room → fitsIn room o ≡ true
-  unfolding fitsIn laidBytes
-  fits-of {room = room} f h = rw f (le-leb _ room (omega (arith, reached-length)))
+use Rattle.layout.proofs.Copied.{answerLength, refused-unput, longer-unput, rows-put}
 
 -- ---- a row for each chunk
 
@@ -116,55 +103,30 @@ module _ (o : Outcome Progress) (old : List ℕ) where
   abbrev room : ℕ
   room = length old
 
-  -- the buffer behind the first pass
-  abbrev passed : Bool → List ℕ
-  passed one = cond one (putFrom room old answerHeadSize o) old
-
-  unput : (one : Bool) → putFrom room old answerHeadSize o ≡ old → passed one ≡ old
-  unput true h = h
-  unput false h = refl
-
-  pub answers-refused : (one : Bool) (k : ℕ) {new : List ℕ} → o ≡ refused k → new ≡ passed one → Answers (answered o room) old (A.Refused k) new
-  unfolding answered andThen putFrom
-  answers-refused one k e b = rw e (record { number = refl; written = refl; buffer = b ∙ unput one (rw e refl); small = omega arith })
+  pub answers-refused : (k : ℕ) {new : List ℕ} → o ≡ refused k → new ≡ putFrom room old answerHeadSize o → Answers (answered o room) old (A.Refused k) new
+  unfolding answered andThen
+  answers-refused k e b = rw e (record { number = refl; written = refl; buffer = b ∙ refused-unput o room old k e; small = omega arith })
 
   module _ (st : Progress) (e : o ≡ given st) where
     abbrev rows : List ChunkRow
     rows = rowsOf (st .chunks)
 
-    abbrev long : ℕ
-    long = answerHeadSize + length (flatMap chunkRowBytes rows)
+    pub answers-too-long : {new : List ℕ} → room < answerLength st → new ≡ putFrom room old answerHeadSize o → Answers (answered o room) old (A.Refused 10) new
+    unfolding answered andThen fitting laidBytes
+    answers-too-long h b =
+        rw (e, answer-long rows, lt-leb (answerLength st) room h) (record { number = refl; written = refl; buffer = b ∙ longer-unput o st e room old h; small = omega arith })
 
-    too-long : room < long → putFrom room old answerHeadSize o ≡ old
-    unfolding putFrom putWithin laidBytes
-    too-long h = rw (e, lt-leb long room h) refl
-
-    pub answers-too-long : (one : Bool) {new : List ℕ} → room < long → new ≡ passed one → Answers (answered o room) old (A.Refused 10) new
-    unfolding answered andThen fitting
-    answers-too-long one h b =
-        rw (e, answer-long rows, lt-leb long room h) (record { number = refl; written = refl; buffer = b ∙ unput one (too-long h); small = omega arith })
-
-    put-fits : (l : List ℕ) → long ≤ room → putFrom room l answerHeadSize o ≡ splice l answerHeadSize (flatMap chunkRowBytes rows)
-    unfolding putFrom putWithin laidBytes
-    put-fits l h = rw (e, le-leb long room h) refl
-
-    -- the rows by one pass or the other, and then the head
-    pub answers-written : (one : Bool) (size count : ℕ) {first second new : List ℕ} → size < 4294967296 → long ≤ room → size ≡ long → count ≡ length rows → first ≡ passed one
-        → second ≡ cond one first (putFrom (length first) first answerHeadSize o) → new ≡ splice second 0 (headOf size count)
-        → Answers (answered o room) old (A.Written size) new
-    unfolding answered andThen fitting
-    answers-written one size count {first} {second} {new} short h n c b₁ b₂ b₃ =
-        let put : second ≡ splice old answerHeadSize (flatMap chunkRowBytes rows) = b₂ ∙ both-put one (b₁) in
+    -- the rows, and then the head
+    pub answers-written : (size count : ℕ) {put new : List ℕ} → size < 4294967296 → answerLength st ≤ room → size ≡ answerLength st → count ≡ length rows → put ≡ putFrom room old answerHeadSize o
+        → new ≡ splice put 0 (headOf size count) → Answers (answered o room) old (A.Written size) new
+    unfolding answered andThen fitting laidBytes
+    answers-written size count short h n c b₁ b₂ =
         let six : length (headOf size count) ≡ answerHeadSize = simp (length-append, length-bytes) in
         let is : headOf size count ++ flatMap chunkRowBytes rows ≡ answerBytes rows = answer-is rows size count n c in
         let whole : splice (splice old answerHeadSize (flatMap chunkRowBytes rows)) 0 (headOf size count) ≡ answerBytes rows ++ drop (length (answerBytes rows)) old =
         subst (λ (k : ℕ). splice (splice old k (flatMap chunkRowBytes rows)) 0 (headOf size count) ≡ answerBytes rows ++ drop (length (answerBytes rows)) old) six
         (head-put old (headOf size count) (flatMap chunkRowBytes rows) (omega arith) ∙ ap (λ (a : List ℕ). a ++ drop (length a) old) is) in
-        rw (e, answer-long rows, le-leb long room h) (record { number = refl; written = n ∙ sym (answer-long rows); buffer = b₃ ∙ ap (λ (l : List ℕ). splice l 0 (headOf size count)) put ∙ whole; small = short })
-      where
-        both-put : (one : Bool) → first ≡ passed one → cond one first (putFrom (length first) first answerHeadSize o) ≡ splice old answerHeadSize (flatMap chunkRowBytes rows)
-        both-put true b = b ∙ put-fits old h
-        both-put false b = ap (λ (l : List ℕ). putFrom (length l) l answerHeadSize o) b ∙ put-fits old h
+        rw (e, answer-long rows, le-leb (answerLength st) room h) (record { number = refl; written = n ∙ sym (answer-long rows); buffer = b₂ ∙ ap (λ (l : List ℕ). splice l 0 (headOf size count)) (b₁ ∙ rows-put o st e room old h) ∙ whole; small = short })
 
 -- ---- the call
 

@@ -1,4 +1,4 @@
--- The loops over the chunks of a checked job: what is known before each turn, and what a turn, a refusal and the end keep. Assumes nothing.
+-- The loop over the chunks of a checked job: what is known before each turn, and what a turn, a refusal and the end keep. Assumes nothing.
 use Prim.Native.Nat.{ℕ, zero, suc, _+_, _-_, _*_, _≤_, _<_}
 use mathlib.Core.Path.{_≡_, refl, sym, ap, subst, _∙_}
 use mathlib.Core.Bool.{Bool, true, _&&_}
@@ -23,13 +23,15 @@ use Rattle.labels.specs.Layout.{Progress, beginning, layoutChunk}
 use Rattle.job.specs.Answer.{placesOf}
 use Rattle.parts.proofs.Walks.{rows-turn, rows-done}
 use Rattle.wire.proofs.Splice.{splice-none}
-use Rattle.layout.specs.declared.progress.Reached.{Reached}
-use Rattle.layout.specs.declared.progress.Laid.{Laid}
-use Rattle.layout.specs.declared.progress.Laid.the-variants.{Going, Refused}
-use Rattle.layout.specs.Checked.{CheckedChunk, CheckedJob, Small, Advanced}
-use Rattle.layout.specs.Steps.{jobIn, chunkIn, progressOf, laidBytes, reachedFrom, laidFrom, putFrom, fitsIn, jobLaid, IfGoing, LaidBehind}
+use Rattle.laid_chunk.specs.declared.progress.Reached.{Reached}
+use Rattle.laid_chunk.specs.declared.progress.Laid.{Laid}
+use Rattle.laid_chunk.specs.declared.progress.Laid.the-variants.{Going, Refused}
+use Rattle.laid_chunk.specs.Checked.{CheckedChunk, Small, Advanced}
+use Rattle.layout.specs.Checked.{CheckedJob}
+use Rattle.laid_chunk.specs.Steps.{jobIn, chunkIn, progressOf, laidBytes, reachedFrom, laidFrom, putFrom, IfGoing, LaidBehind}
+use Rattle.layout.specs.Steps.{fitsIn, jobLaid}
 use Rattle.layout.proofs.Outcomes.{refused-of, given-of}
-use Rattle.layout.proofs.Prefixed.{FitsFrom, put-fits, refused-stays, measured-on, fits-on, put-on, length-on}
+use Rattle.layout.proofs.Prefixed.{FitsFrom, put-fits, refused-stays, measured-on, fits-on, put-on}
 
 -- the `left` chunks that stand from `at` on
 abbrev pub chunksLeft : List ℕ → ℕ → ℕ → List definitions.Chunk
@@ -47,17 +49,17 @@ pub record Left (s : List ℕ) (job : Job) (reached : Reached) (at left : ℕ) :
   pub offset : reached .offset + left * 4_096 ≤ limits .chunks * 4_096
   pub bytes : reached .length + left * 16_777_216 ≤ answerHeadSize + limits .chunks * 16_777_216
 
--- before a turn that measures: with the chunks that are left, the whole is the job's
-pub record Measuring (s : List ℕ) (job : Job) (reached : Reached) (at left : ℕ) : Type 0 where
-  pub known : Left s job reached at left
-  pub laid : laidFrom (reached .length) (restLaid s reached at left) ≡ laidFrom answerHeadSize (jobLaid s)
-
--- before a turn that puts: the chunks that are left end by `room`, and with them put the buffer is `whole`
-pub record Putting (s : List ℕ) (job : Job) (room : ℕ) (out : List ℕ) (reached : Reached) (at left : ℕ) (whole : List ℕ) : Type 0 where
-  pub known : Left s job reached at left
-  pub held : length out ≡ room
+-- the chunks that are left end by `room`, and with them put the buffer is `whole`
+pub record Putting (s : List ℕ) (room : ℕ) (out : List ℕ) (reached : Reached) (at left : ℕ) (whole : List ℕ) : Type 0 where
   pub fits : FitsFrom room (reached .length) (restLaid s reached at left)
   pub put : putFrom room out (reached .length) (restLaid s reached at left) ≡ whole
+
+-- before a turn: with the chunks that are left, the whole is the job's; and if it fits, so it is in the buffer, which held `old` at first
+pub record Laying (s : List ℕ) (job : Job) (room : ℕ) (old out : List ℕ) (reached : Reached) (at left : ℕ) : Type 0 where
+  pub known : Left s job reached at left
+  pub held : room ≤ length out
+  pub laid : laidFrom (reached .length) (restLaid s reached at left) ≡ laidFrom answerHeadSize (jobLaid s)
+  pub put : fitsIn room (jobLaid s) ≡ true → Putting s room out reached at left (putFrom room old answerHeadSize (jobLaid s))
 
 -- ---- the first turn
 
@@ -87,7 +89,7 @@ module _ (s : List ℕ) (job : Job) (k : CheckedJob s job) where
       unfolding reachedFrom laidBytes flatMap
       head = ap (λ (r : Reached). r .length) reached-is
 
-      begun : Left s job reached at left
+      pub begun : Left s job reached at left
       unfolding reachedFrom
       begun =
           record {
@@ -102,12 +104,14 @@ module _ (s : List ℕ) (job : Job) (k : CheckedJob s job) where
       unfolding reachedFrom jobLaid
       begun-laid = rw (reached-is, chunks-are) refl
 
-      pub begun-measured : Measuring s job reached at left
-      begun-measured = record { known = begun; laid = rw (begun-laid, head) refl }
-
-      pub begun-put : (out : List ℕ) → fitsIn (length out) (jobLaid s) ≡ true → Putting s job (length out) out reached at left (putFrom (length out) out answerHeadSize (jobLaid s))
-      begun-put out e =
-          record { known = begun; held = refl; fits = rw (begun-laid, head) (fits-from (length out) (jobLaid s) e); put = rw (begun-laid, head) refl }
+      pub begun-laying : (room : ℕ) (out : List ℕ) → room ≤ length out → Laying s job room out out reached at left
+      begun-laying room out h =
+          record {
+            known = begun;
+            held = h;
+            laid = rw (begun-laid, head) refl;
+            put = λ e. record { fits = rw (begun-laid, head) (fits-from room (jobLaid s) e); put = rw (begun-laid, head) refl };
+          }
 
 -- ---- a turn
 
@@ -154,13 +158,10 @@ module _ (s : List ℕ) (job : Job) (reached : Reached) (at left : ℕ) (h : 0 <
       refused-laid : restLaid s reached at left ≡ refused k
       refused-laid = then-laid ∙ rw (refused-of (reached .length) chunkLaid k (sym r-is ∙ b .laid)) (refused-stays (jobIn s) k others)
 
-      pub refused-measured : Measuring s job reached at left → Refused k ≡ laidFrom answerHeadSize (jobLaid s)
+      -- which then does not fit
+      pub refused-laying : {first out : List ℕ} → Laying s job room first out reached at left → (Refused k ≡ laidFrom answerHeadSize (jobLaid s)) × (fitsIn room (jobLaid s) ≡ true → ⊥)
       unfolding laidFrom
-      refused-measured m = sym (ap (laidFrom (reached .length)) refused-laid) ∙ m .laid
-
-      -- which cannot be where the answer fits
-      pub refused-unfit : {out whole : List ℕ} → Putting s job room out reached at left whole → ⊥
-      refused-unfit p = subst (FitsFrom room (reached .length)) refused-laid (p .fits)
+      refused-laying y = (sym (ap (laidFrom (reached .length)) refused-laid) ∙ y .laid, λ e. subst (FitsFrom room (reached .length)) refused-laid (y .put e .fits))
 
     -- the chunk is laid out and takes `size` bytes, and q is the place behind it
     module _ (next : Reached) (r-is : r ≡ Going next) (size q : ℕ) (size-is : size ≡ chunkSize (drop at s)) (q-is : (drop q s ≡ drop size (drop at s)) × (q ≤ length s)) where
@@ -193,26 +194,25 @@ module _ (s : List ℕ) (job : Job) (reached : Reached) (at left : ℕ) (h : 0 <
       unfolding reachedFrom
       stands f = ap (λ (r : Reached). f (r .length) (restLaid s r q (left - 1))) (went .2)
 
-      pub next-measured : Measuring s job reached at left → Measuring s job next q (left - 1)
-      next-measured m =
-          record {
-            known = next-left (m .known);
-            laid = stands laidFrom ∙ measured-on (jobIn s) (chunksLeft s q (left - 1)) (reached .length) st ∙ ap (laidFrom (reached .length)) (sym whole-laid) ∙ m .laid;
-          }
-
-      pub next-put : {whole : List ℕ} → Putting s job room old reached at left whole → Putting s job room new next q (left - 1) whole
+      next-put : {whole : List ℕ} → room ≤ length old → Putting s room old reached at left whole → Putting s room new next q (left - 1) whole
       unfolding reachedFrom
-      next-put p =
+      next-put held p =
           let cs = chunksLeft s q (left - 1) in
           let n = reached .length in
           let fits : FitsFrom room n (foldl (layoutChunk (jobIn s)) (given st) cs) = subst (FitsFrom room n) whole-laid (p .fits) in
-          let held : room ≤ length old = let same = p .held in omega arith in
           let new-is : new ≡ putFrom room old n (given st) = b .buffer ∙ ap (putFrom room old n) (went .1) in
           record {
-            known = next-left (p .known);
-            held = length-on (jobIn s) cs n st room old held fits new new-is ∙ p .held;
             fits = subst (λ (r : Reached). FitsFrom room (r .length) (restLaid s r q (left - 1))) (sym (went .2)) (fits-on (jobIn s) cs n st room old held fits);
             put = stands (putFrom room new) ∙ put-on (jobIn s) cs n st room old held fits new new-is ∙ ap (putFrom room old n) (sym whole-laid) ∙ p .put;
+          }
+
+      pub next-laying : {first : List ℕ} → length new ≡ length old → Laying s job room first old reached at left → Laying s job room first new next q (left - 1)
+      next-laying kept y =
+          record {
+            known = next-left (y .known);
+            held = let h = y .held in omega arith;
+            laid = stands laidFrom ∙ measured-on (jobIn s) (chunksLeft s q (left - 1)) (reached .length) st ∙ ap (laidFrom (reached .length)) (sym whole-laid) ∙ y .laid;
+            put = λ e. next-put (y .held) (y .put e);
           }
 
 -- ---- the end
@@ -221,14 +221,18 @@ module _ (s : List ℕ) (job : Job) (reached : Reached) (at left : ℕ) (h : lef
   none-left : restLaid s reached at left ≡ given (progressOf reached)
   none-left = rw (rows-done chunkSize chunkOf left (drop at s) h) refl
 
-  pub measured-done : Measuring s job reached at left → Going reached ≡ laidFrom answerHeadSize (jobLaid s)
+  laid-done : {room : ℕ} {first out : List ℕ} → Laying s job room first out reached at left → Going reached ≡ laidFrom answerHeadSize (jobLaid s)
   unfolding laidFrom reachedFrom laidBytes flatMap
-  measured-done m =
+  laid-done y =
       let whole : Going reached ≡ laidFrom (reached .length) (restLaid s reached at left) = rw (none-left, add-zero) refl in
-      whole ∙ m .laid
+      whole ∙ y .laid
 
-  pub put-done : {room : ℕ} {out whole : List ℕ} → Putting s job room out reached at left whole → out ≡ whole
+  put-done : {room : ℕ} {out whole : List ℕ} → Putting s room out reached at left whole → out ≡ whole
   unfolding putFrom laidBytes flatMap
   put-done {room} {out} p =
       let fits : reached .length + 0 ≤ room = subst (FitsFrom room (reached .length)) none-left (p .fits) in
       sym (splice-none out (reached .length)) ∙ sym (put-fits room out (reached .length) [] fits) ∙ ap (putFrom room out (reached .length)) (sym none-left) ∙ p .put
+
+  pub laying-done : {room : ℕ} {first out : List ℕ} → Laying s job room first out reached at left
+      → (Going reached ≡ laidFrom answerHeadSize (jobLaid s)) × (fitsIn room (jobLaid s) ≡ true → out ≡ putFrom room first answerHeadSize (jobLaid s))
+  laying-done y = (laid-done y, λ e. put-done (y .put e))

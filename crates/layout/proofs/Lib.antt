@@ -1,14 +1,8 @@
-pub mod Places
-pub mod Checked
-pub mod Rows
-pub mod Placed
-pub mod Behind
-pub mod Merging
-pub mod Spans
 pub mod Outcomes
 pub mod Prefixed
 pub mod ChunksLeft
 pub mod Single
+pub mod Copied
 pub mod Accepting
 pub mod Answering
 pub mod Promised

@@ -4,9 +4,9 @@ use mathlib.Core.Path.{_≡_, refl}
 use native.Mathlib.Omega.{arith}
 use Rattle.labels.specs.Outcome.{Outcome, refused, given}
 use Rattle.labels.specs.Layout.{Progress}
-use Rattle.layout.specs.declared.progress.Laid.the-variants.{Going, Refused}
-use Rattle.layout.specs.declared.progress.Reached.{Reached}
-use Rattle.layout.specs.Steps.{reachedFrom, laidFrom}
+use Rattle.laid_chunk.specs.declared.progress.Laid.the-variants.{Going, Refused}
+use Rattle.laid_chunk.specs.declared.progress.Reached.{Reached}
+use Rattle.laid_chunk.specs.Steps.{reachedFrom, laidFrom}
 
 pub refused-of : (n : ℕ) (o : Outcome Progress) (k : ℕ) → Refused k ≡ laidFrom n o → o ≡ refused k
 unfolding laidFrom

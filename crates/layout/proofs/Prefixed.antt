@@ -14,8 +14,8 @@ use Rattle.labels.specs.Merge.{mergeGlyphs}
 use Rattle.labels.specs.Answer.{chunkRowBytes}
 use Rattle.labels.specs.Layout.{LaidChunk, Progress, rowsOf, adjustedClusters, placeChunk, layoutChunk}
 use Rattle.wire.specs.Splice.{splice}
-use Rattle.wire.proofs.Splice.{splice-next, length-splice}
-use Rattle.layout.specs.Steps.{progressOf, laidBytes, reachedFrom, laidFrom, putWithin, putFrom}
+use Rattle.wire.proofs.Splice.{splice-next}
+use Rattle.laid_chunk.specs.Steps.{progressOf, laidBytes, reachedFrom, laidFrom, putWithin, putFrom}
 
 abbrev pub prefixed : List LaidChunk → Progress → Progress
 prefixed ls st = record { pen = st .pen; offset = st .offset; chunks = ls ++ st .chunks }
@@ -132,6 +132,3 @@ module _ (j : Job) (cs : List Chunk) (n : ℕ) (st : Progress) where
           ap (λ (l : List ℕ). putFrom room l (n + length (laidBytes st)) rest) put-is
           ∙ put-behind rest fits-on
           ∙ ap (putFrom room old n) (sym whole-is)
-
-      pub length-on : length new ≡ length old
-      length-on = ap length put-is ∙ length-splice old n (laidBytes st) (let h = first-fits rest fits-on in omega arith)

@@ -13,7 +13,8 @@ use Rattle.labels.specs.Layout as definitions
 use Rattle.labels.specs.Layout.{layoutOf, bufferAfter}
 use Rattle.labels.specs.Exact.{NearAnswer}
 use Rattle.layout.specs.declared.Answered.{Answered}
-use Rattle.layout.specs.Steps.{jobIn, jobLaid, answered}
+use Rattle.laid_chunk.specs.Steps.{jobIn}
+use Rattle.layout.specs.Steps.{jobLaid, answered}
 use Rattle.layout.specs.Called.{numberOf, lengthOf, Answers, LaidOut}
 use Rattle.layout.proofs.Answering.{call-given, call-refused}
 

@@ -1,93 +1,16 @@
--- The layout between two chunks as the code holds it, beside the definitions' progress; and what of the answer is written. Definitions only.
+-- The chunks of a job laid out in order, and what of its answer is written. Definitions only.
 use Prim.Native.Nat.{ℕ, _+_}
 use mathlib.Core.Path.{_≡_}
-use mathlib.Core.Bool.{Bool, false, cond}
-use mathlib.Core.List.{List, [], map, flatMap, foldl}
-use lib.ListN.{length, drop}
-use lib.Dec.{leb, eqb}
+use mathlib.Core.Bool.{Bool, false}
+use mathlib.Core.List.{List, foldl}
+use lib.ListN.{length}
+use lib.Dec.{leb}
 use Rattle.labels.specs.Outcome.{Outcome, refused, given, andThen}
-use Rattle.labels.specs.declared.Glyph.{Glyph}
-use Rattle.labels.specs.declared.Cluster.{Cluster}
-use Rattle.labels.specs.Job as definitions
-use Rattle.labels.specs.Decode.{jobOf, chunkOf, chunkCount}
-use Rattle.labels.specs.Check.{afterVersion}
-use Rattle.labels.specs.Answer.{ChunkRow, chunkRowBytes, answerHeadSize}
-use Rattle.labels.specs.declared.Point.{Point}
-use Rattle.labels.specs.Layout.{Progress, beginning, rowsOf, clusterRow, spanRows, adjustedClusters, placeChunk, layoutChunk, fitting}
-use Rattle.lookup.specs.Rows.{partsIn}
-use Rattle.wire.specs.Splice.{splice}
-use Rattle.layout.specs.declared.progress.Reached.{Reached}
-use Rattle.layout.specs.Checked.{Advanced}
-use Rattle.layout.specs.declared.progress.Laid.{Laid}
-use Rattle.layout.specs.declared.progress.Laid.the-variants.{Going, Refused}
-
--- the job of a record, and its chunk that begins at `at`
-abbrev pub jobIn : List ℕ → definitions.Job
-jobIn s = jobOf (afterVersion s)
-
-abbrev pub chunkIn : List ℕ → ℕ → definitions.Chunk
-chunkIn s at = chunkOf (drop at s)
-
--- the definitions' progress, of which no chunk is held
-abbrev pub progressOf : Reached → Progress
-progressOf r = record { pen = r .pen; offset = r .offset; chunks = [] }
-
--- the bytes of the chunks that are laid out
-unfoldable pub laidBytes : Progress → List ℕ
-laidBytes st = flatMap chunkRowBytes (rowsOf (st .chunks))
-
--- where the layout stands, if n bytes of the answer come before those chunks
-unfoldable pub reachedFrom : ℕ → Progress → Reached
-reachedFrom n st = record { pen = st .pen; offset = st .offset; length = n + length (laidBytes st) }
-
-unfoldable pub laidFrom : ℕ → Outcome Progress → Laid
-laidFrom n (refused k) = Refused k
-laidFrom n (given st) = Going (reachedFrom n st)
-
--- what holds where the layout goes on
-abbrev pub IfGoing : (Reached → Type 0) → Laid → Type 0
-IfGoing P (Going r) = P r
-IfGoing P (Refused k) = Unit {0}
-
--- the buffer with the bytes at `at`, if they end by `room`; else as it was
-unfoldable pub putWithin : ℕ → List ℕ → ℕ → List ℕ → List ℕ
-putWithin room out at bs = cond (leb (at + length bs) room) (splice out at bs) out
-
--- the layout stands behind `st`, and its bytes are put
-pub record Behind (room : ℕ) (before after : Reached) (old new : List ℕ) (st : Progress) : Type 0 where
-  pub reached : after ≡ reachedFrom (before .length) st
-  pub small : Advanced before after
-  pub buffer : new ≡ putWithin room old (before .length) (laidBytes st)
-
-unfoldable pub putFrom : ℕ → List ℕ → ℕ → Outcome Progress → List ℕ
-putFrom room out n (refused k) = out
-putFrom room out n (given st) = putWithin room out n (laidBytes st)
-
--- the same behind an outcome: a refusal leaves the buffer as it was
-pub record LaidBehind (room : ℕ) (before : Reached) (r : Laid) (old new : List ℕ) (o : Outcome Progress) : Type 0 where
-  pub laid : r ≡ laidFrom (before .length) o
-  pub small : IfGoing (Advanced before) r
-  pub buffer : new ≡ putFrom room old (before .length) o
-
--- the row of a chunk, of the record s, that has clusters
-abbrev pub chunkRowIn : List ℕ → List ℕ → List Glyph → Point → Point → List Cluster → ChunkRow
-chunkRowIn s spans gs origin pen cs =
-    record {
-      penX = pen .x;
-      penY = pen .y;
-      clusters = map (clusterRow (jobIn s .mode) gs) cs;
-      spans = spanRows (jobIn s) origin cs 0 (partsIn s spans);
-    }
-
--- steps 7 and 8 of the record's chunk at `at`
-abbrev pub placedIn : List ℕ → ℕ → Reached → List Glyph → List Cluster → Progress
-placedIn s at reached gs cs = placeChunk (jobIn s) (progressOf reached) (chunkIn s at) gs cs
-
--- a chunk behind its merge: steps 2 to 8
-unfoldable pub laidMerged : definitions.Job → Progress → definitions.Chunk → List Glyph → Outcome Progress
-laidMerged j st c gs = andThen (adjustedClusters j c gs) (λ (cs : List Cluster). given (placeChunk j st c gs cs))
-
--- ---- the whole job
+use Rattle.labels.specs.Answer.{answerHeadSize}
+use Rattle.labels.specs.Layout.{Progress, beginning, rowsOf, layoutChunk, fitting}
+use Rattle.laid_chunk.specs.declared.progress.Laid.{Laid}
+use Rattle.laid_chunk.specs.Steps.{jobIn, laidBytes, laidFrom, IfGoing, putFrom}
+use Rattle.layout.specs.Checked.{Short}
 
 -- the chunks of the record's job, laid out in order
 unfoldable pub jobLaid : List ℕ → Outcome Progress
@@ -98,9 +21,11 @@ unfoldable pub fitsIn : ℕ → Outcome Progress → Bool
 fitsIn room (refused k) = false
 fitsIn room (given st) = leb (answerHeadSize + length (laidBytes st)) room
 
--- the job has one chunk
-abbrev pub single : List ℕ → Bool
-single s = eqb (chunkCount (afterVersion s)) 1
+-- the layout of the whole job, and the buffer: the rows stand there exactly if no chunk is refused and the answer has room
+pub record RowsPut (o : Outcome Progress) (r : Laid) (old new : List ℕ) : Type 0 where
+  pub laid : r ≡ laidFrom answerHeadSize o
+  pub short : IfGoing Short r
+  pub buffer : new ≡ putFrom (length old) old answerHeadSize o
 
 -- the answer of the chunks laid out, or 10
 unfoldable pub answered : Outcome Progress → ℕ → Outcome (List ℕ)

@@ -1,22 +1,26 @@
-// The chunks in order: measured, and then put.
-use crate::merged::layout_chunk;
-use crate::progress::Laid;
-use crate::progress::Reached;
+// The chunks of a checked job, laid out in order.
 use answer::sizes::ANSWER_HEAD_BYTES;
-use job::check::AFTER_VERSION;
 use labels::Job;
 use labels::Point;
+use laid_chunk::merged::layout_chunk;
+use laid_chunk::progress::Laid;
+use laid_chunk::progress::Reached;
 use parts::sizes::CHUNK_COUNT_BYTES;
-use parts::sizes::chunk_count;
 use parts::sizes::chunk_size;
 use wire::place::after;
 use wire::place::from;
+use wire::read::u8_at;
 ghost use mathlib.Core.Path.{_≡_};
 ghost use mathlib.Core.Bool.{true};
+ghost use Prim.Native.Nat.{_≤_, _<_};
 ghost use lib.ListN.{length};
+ghost use Rattle.labels.specs.Decode.{chunkCount};
+ghost use Rattle.labels.specs.Check.{afterVersion};
 ghost use Rattle.labels.specs.Answer.{answerHeadSize};
 ghost use Rattle.labels.specs.Layout.{beginning};
-ghost use Rattle.layout.specs.Steps.{reachedFrom, laidFrom, jobLaid, fitsIn, putFrom, IfGoing};
+ghost use Rattle.job.specs.Answer.{placesOf};
+ghost use Rattle.laid_chunk.specs.Steps.{reachedFrom, laidFrom, putFrom, IfGoing};
+ghost use Rattle.layout.specs.Steps.{jobLaid, fitsIn};
 ghost use Rattle.layout.specs.Checked.{CheckedJob, Short};
 
 // Before the first chunk.
@@ -30,17 +34,26 @@ pub fn beginning() -> Reached
     }
 }
 
-// How long the answer is, or the number that the job is refused with. Nothing is written.
-pub fn measure_chunks(s: &[u8], job: Job) -> Laid
-    requires { ⌜ CheckedJob (now s) job ⌝ }
-    ensures { λ r. ⌜ (r ≡ laidFrom answerHeadSize (jobLaid (now (s .entry)))) × IfGoing Short r ⌝ }
+// How many chunks the job has.
+pub fn count_of(s: &[u8], job: Job) -> usize
+    requires { ⌜ job ≡ placesOf (now s) ⌝ }
+    ensures { λ r. ⌜ (r ≡ chunkCount (afterVersion (now (s .entry)))) × (r < 256) ⌝ }
 {
-    let mut nothing = [0; 1];
+    u8_at(s, job.chunks) as usize
+}
+
+// Where the layout stands behind the last chunk, or the number that the job is refused with. A chunk's row is put if it ends by `room`: so all
+// rows stand in `out` if the whole answer fits, and else what stands there is of no account.
+pub fn lay_chunks(s: &[u8], job: Job, out: &mut [u8], room: usize) -> Laid
+    requires { ⌜ CheckedJob (now s) job × (room ≤ length (now out)) ⌝ }
+    ensures { λ r. ⌜ (r ≡ laidFrom answerHeadSize (jobLaid (now (s .entry)))) × IfGoing Short r
+        × (fitsIn room (jobLaid (now (s .entry))) ≡ true → now (out .exit) ≡ putFrom room (now (out .entry)) answerHeadSize (jobLaid (now (s .entry)))) ⌝ }
+{
     let mut reached = beginning();
     let mut at = job.chunks + CHUNK_COUNT_BYTES;
-    let mut left = chunk_count(from(s, AFTER_VERSION));
+    let mut left = count_of(s, job);
     while 0 < left {
-        match layout_chunk(s, job, at, reached, &mut nothing, 0) {
+        match layout_chunk(s, job, at, reached, out, room) {
             Laid::Going(next) => reached = next,
             Laid::Refused(number) => return Laid::Refused(number),
         }
@@ -48,23 +61,4 @@ pub fn measure_chunks(s: &[u8], job: Job) -> Laid
         left -= 1;
     }
     Laid::Going(reached)
-}
-
-// The rows of the chunks, of which is known that they fit.
-pub fn put_chunks(s: &[u8], job: Job, out: &mut [u8])
-    requires { ⌜ CheckedJob (now s) job × (fitsIn (length (now out)) (jobLaid (now s)) ≡ true) ⌝ }
-    ensures { λ _. ⌜ now (out .exit) ≡ putFrom (length (now (out .entry))) (now (out .entry)) answerHeadSize (jobLaid (now (s .entry))) ⌝ }
-{
-    let room = out.len();
-    let mut reached = beginning();
-    let mut at = job.chunks + CHUNK_COUNT_BYTES;
-    let mut left = chunk_count(from(s, AFTER_VERSION));
-    while 0 < left {
-        match layout_chunk(s, job, at, reached, out, room) {
-            Laid::Going(next) => reached = next,
-            Laid::Refused(_) => return,
-        }
-        at = after(s, at, chunk_size(from(s, at)));
-        left -= 1;
-    }
 }

@@ -1,24 +1,14 @@
 // The call: a job in, an answer or a refusal out.
+mod aside;
 mod chunks;
-mod merged;
-mod owner;
-mod passes;
-mod pen;
-mod place;
-mod progress;
-mod steps;
-mod write;
 
 use answer::head::put_answer_head;
-use job::check::AFTER_VERSION;
+use aside::put_chunks;
+use chunks::count_of;
 use job::check::Checked;
 use job::check::check;
 use labels::Job;
-use parts::sizes::chunk_count;
-use passes::first_pass;
-use passes::second_pass;
-use progress::Laid;
-use wire::place::from;
+use laid_chunk::progress::Laid;
 ghost use lib.ListN.{length};
 ghost use Rattle.layout.specs.Checked.{CheckedJob};
 ghost use Rattle.layout.specs.Called.{numberOf, lengthOf, Answers, LaidOut};
@@ -38,18 +28,13 @@ fn laid_out(s: &[u8], job: Job, answer: &mut [u8]) -> Answered
     requires { ⌜ CheckedJob (now s) job ⌝ }
     ensures { λ r. ⌜ Answers (answered (jobLaid (now (s .entry))) (length (now (answer .entry)))) (now (answer .entry)) r (now (answer .exit)) ⌝ }
 {
-    match first_pass(s, job, answer) {
+    match put_chunks(s, job, answer) {
         Laid::Refused(number) => Answered::Refused(number),
         Laid::Going(end) => {
             if answer.len() < end.length {
                 return Answered::Refused(TOO_LONG);
             }
-            second_pass(s, job, answer);
-            put_answer_head(
-                answer,
-                end.length,
-                chunk_count(from(s, AFTER_VERSION)) as u8,
-            );
+            put_answer_head(answer, end.length, count_of(s, job) as u8);
             Answered::Written(end.length)
         }
     }

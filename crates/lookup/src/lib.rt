@@ -27,6 +27,9 @@ ghost use Rattle.lookup.specs.Rows.{fontsIn, spansIn, partsIn};
 // Where the first font row stands: behind length, version, writing mode and font count.
 pub const FIRST_FONT: usize = 7;
 
+// Where the font size stands in a span's record.
+pub const SIZE_AT: usize = 5;
+
 fn blank_font() -> Font
     ensures { λ r. ⌜ r ≡ blankFont ⌝ }
 {
@@ -52,6 +55,17 @@ pub fn font_in(s: &[u8], fonts: usize, b: u8) -> Font
         return font_at(s, FIRST_FONT + k * FONT_BYTES);
     }
     blank_font()
+}
+
+// The units per em of the font of a font byte: of its row only they are read, which stand first.
+pub fn units_in(s: &[u8], fonts: usize, b: u8) -> u16
+    ensures { λ r. ⌜ r ≡ fontAt (fontsIn (now (s .entry)) fonts) b .units ⌝ }
+{
+    let k = b as usize;
+    if fonts <= k {
+        return 1;
+    }
+    u16_at(s, FIRST_FONT + k * FONT_BYTES)
 }
 
 fn blank_span() -> Span
@@ -81,6 +95,16 @@ pub fn span_in(s: &[u8], places: &[usize], k: usize) -> Span
         return span_at(s, places[k]);
     }
     blank_span()
+}
+
+// The font size of the span of place `k` in the chunk: only that float of the row is read.
+pub fn size_in(s: &[u8], places: &[usize], k: usize) -> f32
+    ensures { λ r. ⌜ r ≡ spanAt (spansIn (now (s .entry)) (now (places .entry))) k .size ⌝ }
+{
+    if places.len() <= k {
+        return 0.0;
+    }
+    f32_at(from(s, places[k]), SIZE_AT)
 }
 
 // The float of place `i` in a list, given the bytes from its count on.

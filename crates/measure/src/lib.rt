@@ -3,15 +3,17 @@ use labels::Font;
 ghost use mathlib.Core.Path.{_≡_};
 ghost use Prim.Native.Nat.{_≤_};
 ghost use lib.IntN.{pos, natAbs};
-ghost use Rattle.labels.specs.Single.{_/ᶠ_, ofNat};
+ghost use lib.Ieee.{binary32, ofInt};
+ghost use Rattle.labels.specs.Single.{_*ᶠ_, _/ᶠ_, ofNat};
 ghost use Rattle.labels.specs.Kind.{measure};
 ghost use Rattle.labels.specs.Cluster.{rounded};
 ghost use Rattle.labels.specs.Baseline.{ascentOf, descentOf, heightOf, xHeightOf};
 
-pub fn scale(font: Font, size: f32) -> f32
-    ensures { λ r. ⌜ r ≡ size /ᶠ ofNat (font .units) ⌝ }
+// Of a font, only its units per em count.
+pub fn scale(units: u16, size: f32) -> f32
+    ensures { λ r. ⌜ r ≡ size /ᶠ ofNat units ⌝ }
 {
-    size / (font.units as f32)
+    size / (units as f32)
 }
 
 // ---- `z` font units
@@ -19,21 +21,22 @@ pub fn scale(font: Font, size: f32) -> f32
 pub fn measure_i16(font: Font, size: f32, z: i16) -> f32
     ensures { λ r. ⌜ r ≡ measure rounded font size z ⌝ }
 {
-    z as f32 * scale(font, size)
+    z as f32 * scale(font.units, size)
 }
 
 pub fn measure_u16(font: Font, size: f32, z: u16) -> f32
     ensures { λ r. ⌜ r ≡ measure rounded font size (pos z) ⌝ }
 {
-    z as f32 * scale(font, size)
+    z as f32 * scale(font.units, size)
 }
 
 // For a glyph's width, which is within these bounds in a checked job: a cast is taken only of a whole number that is a float.
-pub fn measure_i32(font: Font, size: f32, z: i32) -> f32
+// This is `measure` for every font of these units per em.
+pub fn measure_units(units: u16, size: f32, z: i32) -> f32
     requires { ⌜ natAbs z ≤ 65_535 ⌝ }
-    ensures { λ r. ⌜ r ≡ measure rounded font size z ⌝ }
+    ensures { λ r. ⌜ r ≡ ofInt binary32 z *ᶠ (size /ᶠ ofNat units) ⌝ }
 {
-    z as f32 * scale(font, size)
+    z as f32 * scale(units, size)
 }
 
 // ---- the measures of a font row

@@ -1,10 +1,12 @@
 -- One turn of the search for a byte index, and its end; the glyph at a place of the list. Assumes nothing.
 use Prim.Native.Nat.{ℕ, zero, suc, _+_, _≤_, _<_}
 use mathlib.Core.Path.{_≡_, refl}
+use mathlib.Core.Bool.{Bool, true, false}
 use mathlib.Core.List.{List, [], _∷_, map}
 use native.Mathlib.Nat.{le-of-suc-le-suc, not-suc-le-zero}
 use native.Mathlib.Numerals.{add-one}
 use native.Mathlib.Omega.{arith}
+use lib.Dec.{eqb}
 use lib.ListN.{length, take, drop, getD, length-take, drop-of-length-le}
 use lib.Seq.{drop-cons, getD-take}
 use borrow.Author.Tests.{eq-eqb, ne-eqb}
@@ -13,6 +15,20 @@ use Rattle.labels.specs.declared.Glyph.{Glyph}
 use Rattle.labels.specs.Decode.{glyphOf}
 use Rattle.labels.specs.Merge.{placeOf, lengthAt}
 use Rattle.merge.specs.Merged.{glyphsIn}
+use Rattle.merge.proofs.Moved.{map-drop}
+
+-- nothing before place i has p
+past : {A : Type 0} (p : A → Bool) (l : List A) (i : ℕ) → i ≤ findIdx p l → i + findIdx p (drop i l) ≡ findIdx p l
+unfolding findIdx
+past p l zero h = omega arith
+past p [] (suc i) h = absurd (not-suc-le-zero h)
+past p (x ∷ l) (suc i) h = go (p x) refl (past p l i)
+  where
+    go : (b : Bool) → p x ≡ b → (i ≤ findIdx p l → i + findIdx p (drop i l) ≡ findIdx p l) → suc i + findIdx p (drop i l) ≡ findIdx p (x ∷ l)
+    go true e on = absurd (not-suc-le-zero (rw e at h))
+    go false e on =
+        let k : suc i ≤ suc (findIdx p l) = rw e at h in
+        rw e (omega (arith, on (le-of-suc-le-suc k)))
 
 module _ (s rows : List ℕ) (n index : ℕ) where
   abbrev glyphAt : ℕ → Glyph
@@ -25,6 +41,10 @@ module _ (s rows : List ℕ) (n index : ℕ) where
   pub place-start : placeFrom 0 ≡ placeOf index (glyphsIn s rows n)
   unfolding glyphsIn
   place-start = omega arith
+
+  pub place-from : (i : ℕ) → i ≤ placeOf index (glyphsIn s rows n) → placeFrom i ≡ placeOf index (glyphsIn s rows n)
+  unfolding glyphsIn
+  place-from i h = rw (map-drop glyphAt i (take n rows)) (past (λ (g : Glyph). eqb (g .index) index) (map glyphAt (take n rows)) i h)
 
   next-row : (i : ℕ) → i < n → n ≤ length rows → drop i (take n rows) ≡ getD rows i 0 ∷ drop (suc i) (take n rows)
   next-row i h k =

@@ -60,7 +60,7 @@ module _ {A B : Type 0} (f : A → B) where
   map-take (suc n) [] = refl
   map-take (suc n) (x ∷ xs) = ap {B = List B} (λ r. f x ∷ r) (map-take n xs)
 
-  map-drop : (n : ℕ) (l : List A) → map f (drop n l) ≡ drop n (map f l)
+  pub map-drop : (n : ℕ) (l : List A) → map f (drop n l) ≡ drop n (map f l)
   map-drop zero l = refl
   map-drop (suc n) [] = refl
   map-drop (suc n) (x ∷ xs) = map-drop n xs

@@ -29,14 +29,13 @@ own-glyphs s row at p k n row-is p-is k-is n-is =
 
 -- a span's parts, and its n glyphs, which stand from `first` on; its merge into a list of `count` glyphs
 module _ (s : List ℕ) (parts : SpanParts) (first n : ℕ) (own : records (λ b. glyphBytes) glyphOf n (drop first s) ≡ parts .glyphs) where
+  pub own-count : n ≡ length (parts .glyphs)
+  own-count = rw (← own, length-rows)
+
   pub own-few : FewGlyphs parts → n ≤ limits .glyphs
   own-few h = rw (← own, length-rows) at h
 
   module _ (rows : List ℕ) (count : ℕ) where
-    pub span-first : count ≡ 0 → mergeSpan (given (glyphsIn s rows count)) parts ≡ given (records (λ b. glyphBytes) glyphOf n (drop first s))
-    unfolding mergeSpan glyphsIn
-    span-first e = rw (e, own)
-
     more : (gs : List Glyph) → 0 < length gs → mergeSpan (given gs) parts ≡ mergeDone (foldl (mergeGlyph (parts .span)) (merging gs [] 0 0) (parts .glyphs))
     unfolding mergeSpan
     more [] h = absurd (not-suc-le-zero h)
@@ -45,6 +44,18 @@ module _ (s : List ℕ) (parts : SpanParts) (first n : ℕ) (own : records (λ b
     pub span-more : 0 < count → count ≤ length rows
         → mergeSpan (given (glyphsIn s rows count)) parts ≡ mergeDone (foldl (mergeGlyph (parts .span)) (merging (glyphsIn s rows count) [] 0 0) (records (λ b. glyphBytes) glyphOf n (drop first s)))
     span-more h held = rw own (more (glyphsIn s rows count) (rw (glyphs-count s rows count held) h))
+
+-- an empty list becomes the span's own
+pub span-first : (s : List ℕ) (parts : SpanParts) (rows : List ℕ) (count : ℕ) → count ≡ 0 → mergeSpan (given (glyphsIn s rows count)) parts ≡ given (parts .glyphs)
+unfolding mergeSpan glyphsIn
+span-first s parts rows count e = rw e
+
+-- a single span has nothing to be merged with
+pub single-span : (s spans : List ℕ) → length spans ≡ 1 → mergeGlyphs (partsIn s spans) ≡ given (partsOf (drop (getD spans 0 0) s) .glyphs)
+unfolding mergeGlyphs mergeSpan partsIn
+single-span s [] h = absurd (not-suc-le-zero {n = 0} (omega (arith, h)))
+single-span s (p ∷ []) h = refl
+single-span s (p ∷ q ∷ ps) h = absurd (not-suc-le-zero {n = 0} (omega (arith, h)))
 
 pub own-span : (bs : List ℕ) → spanOf bs ≡ partsOf bs .span
 unfolding partsOf

@@ -16,6 +16,7 @@ use Rattle.merge.specs.Steps.{mergingOf, Marked, Stands}
 use Rattle.merge.specs.declared.step.Progress.{Progress}
 use Rattle.merge.specs.declared.step.Step.{Step}
 use Rattle.merge.specs.declared.step.Step.the-variants.{Going, Halted}
+use Rattle.merge.proofs.Shifted.{After, Followed, followed}
 
 pub fold-halted : (span : Span) (k : ℕ) (gs : List Glyph) → foldl (mergeGlyph span) (halted k) gs ≡ halted k
 unfolding mergeGlyph
@@ -44,6 +45,14 @@ module _ (s : List ℕ) (span : Span) (stamp : ℕ) (whole : Merging) where
       marked = did (l .positions) (l .marked) .marked;
       rest = rw e at next;
     }
+
+    pub step-after : (at₁ : Progress) → r ≡ Going at₁ → After (glyphsIn s rows (at .count)) (glyphOf (drop row s)) (at .next) (glyphsIn s rows₁ (at₁ .count))
+    unfolding mergingOf
+    step-after at₁ e =
+        let gs : List Glyph = glyphsIn s rows (at .count) in
+        let stood : Followed gs (glyphOf (drop row s)) (at .next) (mergingOf r s rows₁ (did (l .positions) (l .marked) .positions)) =
+        rw (did (l .positions) (l .marked) .is) (followed gs (glyphOf (drop row s)) (at .next) (l .positions) span (at .owed)) in
+        rw e at stood
 
     pub left-halted : (k : ℕ) → r ≡ Halted k → refused k ≡ mergeDone whole
     unfolding mergingOf mergeDone

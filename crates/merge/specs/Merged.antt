@@ -1,11 +1,15 @@
 -- The merged list as the code holds it, and the answer to a chunk's merge. Definitions only.
 use Prim.Native.Nat.{ℕ, _≤_}
-use mathlib.Core.List.{List}
-use lib.ListN.{length}
+use mathlib.Core.List.{List, [], foldl}
+use lib.ListN.{length, drop}
 unfoldable pub use Rattle.lookup.specs.Rows.{glyphsIn}
 use Rattle.labels.specs.Outcome.{Outcome, refused, given}
+use Rattle.labels.specs.Bytes.{rows as records}
 use Rattle.labels.specs.declared.Glyph.{Glyph}
+use Rattle.labels.specs.declared.Span.{Span}
 use Rattle.labels.specs.Job.{SpanParts, limits}
+use Rattle.labels.specs.Decode.{glyphOf, glyphBytes}
+use Rattle.labels.specs.Merge.{merging, mergeGlyph, mergeDone}
 use Rattle.merge.specs.declared.Merge.{Merge}
 use Rattle.merge.specs.declared.Merge.the-variants as M
 
@@ -13,6 +17,11 @@ use Rattle.merge.specs.declared.Merge.the-variants as M
 unfoldable pub mergedOf : Merge → List ℕ → List ℕ → Outcome (List Glyph)
 mergedOf (M.Merged n) s rows = given (glyphsIn s rows n)
 mergedOf (M.Refused k) s rows = refused k
+
+-- the span's n glyphs that stand in the record s from `first` on, merged into the list gs
+abbrev pub mergedInto : List Glyph → Span → List ℕ → ℕ → ℕ → Outcome (List Glyph)
+mergedInto gs span s first n =
+    mergeDone (foldl (mergeGlyph span) (merging gs [] 0 0) (records (λ b. glyphBytes) glyphOf n (drop first s)))
 
 -- the list is no longer than its limit
 abbrev pub Held : Merge → Type 0

@@ -1,13 +1,13 @@
 -- A span's merge on its way, as the code holds it, beside the definitions' state. Definitions only.
-use Prim.Native.Nat.{ℕ, _+_, _≤_, _<_}
+use Prim.Native.Nat.{ℕ, _+_, _≤_, _<_, min, _/_}
 use mathlib.Core.Path.{_≡_}
 use mathlib.Core.List.{List}
 use lib.Dec.{eqb}
-use lib.ListN.{getD, length}
+use lib.ListN.{getD, length, set}
 use Rattle.labels.specs.Lists.{among}
 use Rattle.labels.specs.Job.{limits}
 use Rattle.labels.specs.declared.Glyph.{Glyph}
-use Rattle.labels.specs.Merge.{Merging, halted, merging, replace, lengthAt}
+use Rattle.labels.specs.Merge.{Merging, halted, merging, replace, lengthAt, placeOf}
 use Rattle.merge.specs.Merged.{glyphsIn}
 use Rattle.merge.specs.declared.step.Step.{Step}
 use Rattle.merge.specs.declared.step.Step.the-variants.{Going, Halted}
@@ -40,3 +40,15 @@ pub record Stands (r : Step) (s rows : List ℕ) (stamp : ℕ) (marks : List ℕ
   pub positions : List ℕ
   pub marked : Marked stamp marks positions
   pub is : mergingOf r s rows positions ≡ m
+
+-- the entry of a byte index in the table of first places: 32 neighbours share one
+abbrev pub bucketOf : ℕ → ℕ
+bucketOf b = b / 32
+
+-- no entry of the table is more than `slack` past the place of the first glyph of one of its byte indexes. Past the table's end it counts as 0
+abbrev pub NoLater : ℕ → List ℕ → List Glyph → Type 0
+NoLater slack firsts gs = (b : ℕ) → getD firsts (bucketOf b) 0 ≤ placeOf b gs + slack
+
+-- the table with the entry of byte index b no later than `place`
+abbrev pub lowered : List ℕ → ℕ → ℕ → List ℕ
+lowered firsts b place = set firsts (bucketOf b) (min (getD firsts (bucketOf b) 0) place)

@@ -1,30 +1,98 @@
 // The merge of a chunk: span by span into one list, whose rows the caller lends.
 use crate::Merge;
+use crate::firsts::BUCKET;
+use crate::firsts::follow_step;
+use crate::firsts::put_firsts;
+use crate::glyph::index_at;
 use crate::moves::list_rows;
 use crate::step::Progress;
 use crate::step::Step;
 use crate::step::merge_glyph;
+use labels::Job;
 use labels::Span;
 use parts::rows::span_at;
 use parts::sizes::glyph_count;
 use parts::sizes::glyphs_at;
+use wire::place::cut;
 use wire::place::from;
 ghost use mathlib.Core.Path.{_≡_};
-ghost use mathlib.Core.List.{[], foldl};
 ghost use Prim.Native.Nat.{_+_, _≤_, _<_};
 ghost use lib.ListN.{length, drop};
 ghost use Rattle.labels.specs.Outcome.{given};
 ghost use Rattle.labels.specs.Bytes.{rows as records};
 ghost use Rattle.labels.specs.Decode.{glyphOf, glyphBytes, partsOf};
-ghost use Rattle.labels.specs.Merge.{merging, mergeGlyph, mergeDone, mergeSpan, mergeGlyphs};
+ghost use Rattle.labels.specs.Merge.{mergeSpan, mergeGlyphs};
 ghost use Rattle.laws.proofs.All.{All};
 ghost use Rattle.lookup.specs.Rows.{partsIn};
-ghost use Rattle.merge.specs.Merged.{glyphsIn, mergedOf, Held, FewGlyphs};
-ghost use Rattle.merge.specs.Steps.{Below};
+ghost use Rattle.merge.specs.Merged.{glyphsIn, mergedOf, mergedInto, Held, FewGlyphs};
+ghost use Rattle.merge.specs.Steps.{Below, NoLater};
+
+// The entries of a table of first places for the longest text.
+const BUCKETS: usize = Job::TEXT / BUCKET;
+
+// A span of so few glyphs, or one that meets a list of so few, is merged without a table: to fill one would take longer than the walks.
+const FEW: usize = 16;
+
+// A search walks up to twice as many glyphs as were inserted or removed since the table was made. Past this number it is made anew, which
+// takes a walk of the whole list.
+const SLACK: usize = 32;
 
 // The `n` glyphs that stand from `first` on are merged into a list that is not empty. A place that is replaced gets the span's stamp as its
 // mark. The marks that earlier spans left are less, so that they need not be cleared.
+// A glyph that takes the place of another has its byte index, so the table of first places stays right while the count does not change.
 fn merge_glyphs(
+    s: &[u8],
+    span: Span,
+    rows: &mut [u32; 1024],
+    marks: &mut [u8; 1024],
+    firsts: &mut [u16],
+    stamp: u8,
+    count: usize,
+    first: u32,
+    n: usize,
+) -> Merge
+    requires { ⌜ (length (now rows) ≡ 1024) × (length (now marks) ≡ 1024) × Below stamp (now marks)
+        × (count ≤ 1024) × (n ≤ 1024) × (first ≤ 2_000_000) × NoLater 0 (now firsts) (glyphsIn (now s) (now rows) count) ⌝ }
+    ensures { λ r. ⌜ (length (now (rows .exit)) ≡ 1024) × (length (now (marks .exit)) ≡ 1024) × Below (stamp + 1) (now (marks .exit))
+        × Held r
+        × (mergedOf r (now (s .entry)) (now (rows .exit))
+        ≡ mergedInto (glyphsIn (now (s .entry)) (now (rows .entry)) count) span (now (s .entry)) first n) ⌝ }
+{
+    let mut at = Progress {
+        count,
+        owed: 0,
+        next: 0,
+    };
+    let mut slack: usize = 0;
+    let mut row = first;
+    let mut left = n;
+    while 0 < left {
+        match merge_glyph(s, span, rows, marks, firsts, slack, stamp, at, row) {
+            Step::Going(next) => {
+                slack = follow_step(
+                    firsts,
+                    at.count,
+                    next.count,
+                    index_at(s, row),
+                    at.next,
+                    slack,
+                );
+                at = next;
+            }
+            Step::Halted(k) => return Merge::Refused(k),
+        }
+        if SLACK < slack {
+            put_firsts(s, rows, at.count, firsts);
+            slack = 0;
+        }
+        row += 25;
+        left -= 1;
+    }
+    Merge::Merged(at.count)
+}
+
+// The same where a table of first places pays: it is made here, and is for this span only.
+fn merge_many(
     s: &[u8],
     span: Span,
     rows: &mut [u32; 1024],
@@ -39,41 +107,17 @@ fn merge_glyphs(
     ensures { λ r. ⌜ (length (now (rows .exit)) ≡ 1024) × (length (now (marks .exit)) ≡ 1024) × Below (stamp + 1) (now (marks .exit))
         × Held r
         × (mergedOf r (now (s .entry)) (now (rows .exit))
-        ≡ mergeDone (foldl (mergeGlyph span) (merging (glyphsIn (now (s .entry)) (now (rows .entry)) count) [] 0 0)
-        (records (λ b. glyphBytes) glyphOf n (drop first (now (s .entry)))))) ⌝ }
+        ≡ mergedInto (glyphsIn (now (s .entry)) (now (rows .entry)) count) span (now (s .entry)) first n) ⌝ }
 {
-    let mut at = Progress {
-        count,
-        owed: 0,
-        next: 0,
-    };
-    let mut row = first;
-    let mut left = n;
-    while 0 < left {
-        match merge_glyph(s, span, rows, marks, stamp, at, row) {
-            Step::Going(next) => at = next,
-            Step::Halted(k) => return Merge::Refused(k),
-        }
-        row += 25;
-        left -= 1;
-    }
-    Merge::Merged(at.count)
+    let mut firsts = [0u16; BUCKETS];
+    put_firsts(s, rows, count, &mut firsts);
+    merge_glyphs(s, span, rows, marks, &mut firsts, stamp, count, first, n)
 }
 
 // The glyph rows of a span: the place of the first, and how many there are.
 pub struct GlyphRows {
     pub first: u32,
     pub count: usize,
-}
-
-// The place `at`, or the record's end where `at` is past it: nothing stands at either.
-fn cut(s: &[u8], at: usize) -> usize
-    ensures { λ r. ⌜ (r ≤ length (now (s .entry))) × (drop r (now (s .entry)) ≡ drop at (now (s .entry))) ⌝ }
-{
-    if at < s.len() {
-        return at;
-    }
-    s.len()
 }
 
 // Those of the span at `at`.
@@ -88,6 +132,18 @@ fn glyph_rows(s: &[u8], at: usize) -> GlyphRows
         first,
         count: glyph_count(span),
     }
+}
+
+// The list is the glyphs of the span at `at`, for which there is room; the result is how many they are.
+pub fn list_span(s: &[u8], at: usize, rows: &mut [u32]) -> usize
+    requires { ⌜ (length (now s) ≤ 1_048_576) × FewGlyphs (partsOf (drop at (now s)))
+        × (length (partsOf (drop at (now s)) .glyphs) ≤ length (now rows)) ⌝ }
+    ensures { λ r. ⌜ (length (now (rows .exit)) ≡ length (now (rows .entry))) × (r ≡ length (partsOf (drop at (now (s .entry))) .glyphs))
+        × (glyphsIn (now (s .entry)) (now (rows .exit)) r ≡ partsOf (drop at (now (s .entry))) .glyphs) ⌝ }
+{
+    let own = glyph_rows(s, at);
+    list_rows(rows, own.first, own.count);
+    own.count
 }
 
 // The next span, which stands at `at`. While the list is empty, the span's whole glyph list becomes it.
@@ -107,17 +163,21 @@ pub fn merge_span(
         ≡ mergeSpan (given (glyphsIn (now (s .entry)) (now (rows .entry)) count)) (partsOf (drop at (now (s .entry))))) ⌝ }
 {
     let own = glyph_rows(s, at);
+    let first = own.first;
     let n = own.count;
     if count == 0 {
-        list_rows(rows, own.first, n);
-        return Merge::Merged(n);
+        return Merge::Merged(list_span(s, at, rows));
     }
-    merge_glyphs(s, span_at(s, at), rows, marks, stamp, count, own.first, n)
+    let span = span_at(s, at);
+    if (n <= FEW) | (count <= FEW) {
+        let mut none = [0u16; 1];
+        return merge_glyphs(s, span, rows, marks, &mut none[..0], stamp, count, first, n);
+    }
+    merge_many(s, span, rows, marks, stamp, count, first, n)
 }
 
-// The glyphs of the spans that stand at the places `spans`, merged into one list: its rows are the first of `rows`.
-// The marks are cleared once; a span's stamp is its number, from 1 on.
-pub fn process_chunk(s: &[u8], spans: &[usize], rows: &mut [u32; 1024]) -> Merge
+// The spans one after the other. The marks are cleared once; a span's stamp is its number, from 1 on.
+fn merge_spans(s: &[u8], spans: &[usize], rows: &mut [u32; 1024]) -> Merge
     requires { ⌜ (length (now s) ≤ 1_048_576) × (length (now spans) ≤ 255)
         × All FewGlyphs (partsIn (now s) (now spans)) × (length (now rows) ≡ 1024) ⌝ }
     ensures { λ r. ⌜ (length (now (rows .exit)) ≡ 1024)
@@ -136,4 +196,19 @@ pub fn process_chunk(s: &[u8], spans: &[usize], rows: &mut [u32; 1024]) -> Merge
         i += 1;
     }
     Merge::Merged(count)
+}
+
+// The glyphs of the spans that stand at the places `spans`, merged into one list: its rows are the first of `rows`. A single span, as most
+// labels have, has nothing to be merged with.
+pub fn process_chunk(s: &[u8], spans: &[usize], rows: &mut [u32; 1024]) -> Merge
+    requires { ⌜ (length (now s) ≤ 1_048_576) × (length (now spans) ≤ 255)
+        × All FewGlyphs (partsIn (now s) (now spans)) × (length (now rows) ≡ 1024) ⌝ }
+    ensures { λ r. ⌜ (length (now (rows .exit)) ≡ 1024)
+        × Held r
+        × (mergedOf r (now (s .entry)) (now (rows .exit)) ≡ mergeGlyphs (partsIn (now (s .entry)) (now (spans .entry)))) ⌝ }
+{
+    if spans.len() == 1 {
+        return Merge::Merged(list_span(s, spans[0], rows));
+    }
+    merge_spans(s, spans, rows)
 }

@@ -10,9 +10,9 @@ ghost use Rattle.labels.specs.Merge.{inserted, removed};
 ghost use Rattle.merge.specs.Merged.{glyphsIn};
 
 // The list is the `n` glyphs that stand one after the other from `first` on.
-pub fn list_rows(rows: &mut [u32; 1024], first: u32, n: usize)
-    requires { ⌜ (length (now rows) ≡ 1024) × (n ≤ 1024) × (first ≤ 2_000_000) ⌝ }
-    ensures { λ _. ⌜ (length (now (rows .exit)) ≡ 1024)
+pub fn list_rows(rows: &mut [u32], first: u32, n: usize)
+    requires { ⌜ (n ≤ length (now rows)) × (n ≤ 1024) × (first ≤ 2_000_000) ⌝ }
+    ensures { λ _. ⌜ (length (now (rows .exit)) ≡ length (now (rows .entry)))
         × ((s : List ℕ) → glyphsIn s (now (rows .exit)) n ≡ records (λ r. glyphBytes) glyphOf n (drop first s)) ⌝ }
 {
     let mut row = first;

@@ -1,4 +1,5 @@
 // One glyph of a span merged into a list that is not empty.
+use crate::firsts::first_of;
 use crate::glyph::index_at;
 use crate::glyph::length_at;
 use crate::glyph::span_contains;
@@ -17,7 +18,7 @@ ghost use Rattle.labels.specs.declared.Span as S;
 ghost use Rattle.labels.specs.Decode.{glyphOf};
 ghost use Rattle.labels.specs.Merge.{merging, spanContains, replaceLonger, insertNext, replaceFirst, mergeGlyph};
 ghost use Rattle.merge.specs.Merged.{glyphsIn};
-ghost use Rattle.merge.specs.Steps.{replacedAt, mergingOf, Within, Marked, Stands};
+ghost use Rattle.merge.specs.Steps.{replacedAt, mergingOf, Within, Marked, Stands, NoLater};
 
 // Where the merge of a span stands: how many glyphs the list has, and how many of the next glyphs are still to be inserted unfiltered,
 // with the place for the first of them.
@@ -118,19 +119,22 @@ pub fn replace_first(
     s: &[u8],
     rows: &mut [u32; 1024],
     marks: &mut [u8; 1024],
+    firsts: &[u16],
+    slack: usize,
     stamp: u8,
     count: usize,
     row: u32,
     index: u16,
 ) -> Step
-    requires { ⌜ (length (now rows) ≡ 1024) × (length (now marks) ≡ 1024) × (count ≤ 1024) × (index ≡ glyphOf (drop row (now s)) .index) ⌝ }
+    requires { ⌜ (length (now rows) ≡ 1024) × (length (now marks) ≡ 1024) × (count ≤ 1024) × (index ≡ glyphOf (drop row (now s)) .index)
+        × NoLater slack (now firsts) (glyphsIn (now s) (now rows) count) ⌝ }
     ensures { λ r. ⌜ (length (now (rows .exit)) ≡ 1024) × (length (now (marks .exit)) ≡ 1024)
         × Within r
         × ((span : S.Span) (positions : List ℕ) → spanContains span index ≡ true → Marked stamp (now (marks .entry)) positions
         → Stands r (now (s .entry)) (now (rows .exit)) stamp (now (marks .exit))
         (replaceFirst span (glyphOf (drop row (now (s .entry)))) (glyphsIn (now (s .entry)) (now (rows .entry)) count) positions)) ⌝ }
 {
-    let p = place_of(s, rows, count, index);
+    let p = place_of(s, rows, count, index, first_of(firsts, index, slack));
     if count <= p {
         return skip(count);
     }
@@ -147,11 +151,14 @@ pub fn merge_glyph(
     span: Span,
     rows: &mut [u32; 1024],
     marks: &mut [u8; 1024],
+    firsts: &[u16],
+    slack: usize,
     stamp: u8,
     at: Progress,
     row: u32,
 ) -> Step
-    requires { ⌜ (length (now rows) ≡ 1024) × (length (now marks) ≡ 1024) × (at .count ≤ 1024) × (at .next ≤ at .count) ⌝ }
+    requires { ⌜ (length (now rows) ≡ 1024) × (length (now marks) ≡ 1024) × (at .count ≤ 1024) × (at .next ≤ at .count)
+        × NoLater slack (now firsts) (glyphsIn (now s) (now rows) (at .count)) ⌝ }
     ensures { λ r. ⌜ (length (now (rows .exit)) ≡ 1024) × (length (now (marks .exit)) ≡ 1024)
         × Within r
         × ((positions : List ℕ) → Marked stamp (now (marks .entry)) positions → Stands r (now (s .entry)) (now (rows .exit)) stamp (now (marks .exit))
@@ -166,5 +173,5 @@ pub fn merge_glyph(
     if !covered {
         return skip(at.count);
     }
-    replace_first(s, rows, marks, stamp, at.count, row, index)
+    replace_first(s, rows, marks, firsts, slack, stamp, at.count, row, index)
 }

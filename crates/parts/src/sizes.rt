@@ -7,7 +7,7 @@ use wire::read::u16_at;
 ghost use mathlib.Core.Path.{_≡_};
 ghost use Prim.Native.Nat.{_<_, _≤_, _*_};
 ghost use Rattle.labels.specs.Bytes.{sizes};
-ghost use Rattle.labels.specs.Decode.{shiftCount, glyphsAt, glyphCount, spanSize, textSize, spansAt, spanCount, spanBytes, chunkSize, chunkOf, listSize, fontCount, dxAt, dyAt, rotateAt, chunksAt, chunkCount, chunkBytes};
+ghost use Rattle.labels.specs.Decode.{shiftCount, glyphsAt, glyphCount, spanSize, textSize, spansAt, spanCount, spanBytes, chunkSize, chunkOf, listSize, fontCount};
 
 // ---- sizes and places of a record's parts, in the definitions' words where they have a name for them
 
@@ -15,6 +15,9 @@ ghost use Rattle.labels.specs.Decode.{shiftCount, glyphsAt, glyphCount, spanSiz
 pub const FONT_BYTES: usize = 18;
 
 pub const GLYPH_BYTES: usize = 25;
+
+// Where a glyph's byte index stands in its row.
+pub const GLYPH_INDEX_AT: usize = 4;
 
 pub const SHIFT_BYTES: usize = 5;
 
@@ -34,13 +37,21 @@ pub const FONT_COUNT_AT: usize = 1;
 
 pub const FONTS_AT: usize = FONT_COUNT_AT + 1;
 
-// Where a chunk's text length and its text stand.
+// Where a chunk's x, y and anchor stand, its text length and its text.
+pub const CHUNK_X_AT: usize = 1;
+
+pub const CHUNK_Y_AT: usize = 5;
+
+pub const ANCHOR_AT: usize = 9;
+
 pub const TEXT_AT: usize = 11;
 
 pub const TEXT_BYTES_AT: usize = TEXT_AT + 2;
 
-// Where a span's shift count and its shifts stand.
-pub const SHIFT_COUNT_AT: usize = 26;
+// How many bytes a span has before its shift count, and where that and the shifts stand.
+pub const SPAN_HEAD_BYTES: usize = 26;
+
+pub const SHIFT_COUNT_AT: usize = SPAN_HEAD_BYTES;
 
 pub const SHIFTS_AT: usize = SHIFT_COUNT_AT + 1;
 
@@ -160,44 +171,4 @@ pub fn font_count(job: &[u8]) -> usize
     ensures { λ r. ⌜ (r ≡ fontCount (now (job .entry))) × (r < 256) ⌝ }
 {
     u8_at(job, FONT_COUNT_AT) as usize
-}
-
-pub fn dx_at(job: &[u8]) -> usize
-    ensures { λ r. ⌜ (r ≡ dxAt (now (job .entry))) × (r < 4_593) ⌝ }
-{
-    FONTS_AT + font_count(job) * FONT_BYTES
-}
-
-pub fn dy_at(job: &[u8]) -> usize
-    ensures { λ r. ⌜ (r ≡ dyAt (now (job .entry))) × (r < 300_000) ⌝ }
-{
-    let dx = dx_at(job);
-    dx + list_size(from(job, dx))
-}
-
-pub fn rotate_at(job: &[u8]) -> usize
-    ensures { λ r. ⌜ (r ≡ rotateAt (now (job .entry))) × (r < 600_000) ⌝ }
-{
-    let dy = dy_at(job);
-    dy + list_size(from(job, dy))
-}
-
-pub fn chunks_at(job: &[u8]) -> usize
-    ensures { λ r. ⌜ (r ≡ chunksAt (now (job .entry))) × (r < 900_000) ⌝ }
-{
-    let rotate = rotate_at(job);
-    rotate + list_size(from(job, rotate))
-}
-
-pub fn chunk_count(job: &[u8]) -> usize
-    ensures { λ r. ⌜ (r ≡ chunkCount (now (job .entry))) × (r < 256) ⌝ }
-{
-    u8_at(job, chunks_at(job)) as usize
-}
-
-// The bytes from the first chunk on.
-pub fn chunk_bytes(job: &[u8]) -> &[u8]
-    ensures { λ r. ⌜ now r ≡ chunkBytes (now (job .entry)) ⌝ }
-{
-    from(job, chunks_at(job) + CHUNK_COUNT_BYTES)
 }

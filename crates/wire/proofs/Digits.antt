@@ -8,7 +8,6 @@ use native.Mathlib.Omega.{arith}
 use lib.ListN.{getD}
 use lib.Dec.{lit<}
 use Rattle.labels.specs.Bytes.{be}
-use Rattle.wire.specs.Padded.{paddedOf}
 
 -- one byte more
 pub be-step : (bs : List ℕ) (i : ℕ) → be (i + 1) bs ≡ be i bs * 256 + getD bs i 0
@@ -20,18 +19,6 @@ pub be-same : (k : ℕ) (a b : List ℕ) → ((i : ℕ) → i < k → getD a i 0
 unfolding be
 be-same zero a b h = refl
 be-same (suc k) a b h = ap₂ (λ (n d : ℕ). n * 256 + d) (be-same k a b (λ i l. h i (omega arith))) (h k (omega arith))
-
--- what is missing counts as 0 already
-pub padded-same : (bs : List ℕ) (i : ℕ) → i < 8 → getD (paddedOf bs) i 0 ≡ getD bs i 0
-padded-same bs zero h = refl
-padded-same bs (suc zero) h = refl
-padded-same bs (suc (suc zero)) h = refl
-padded-same bs (suc (suc (suc zero))) h = refl
-padded-same bs (suc (suc (suc (suc zero)))) h = refl
-padded-same bs (suc (suc (suc (suc (suc zero))))) h = refl
-padded-same bs (suc (suc (suc (suc (suc (suc zero)))))) h = refl
-padded-same bs (suc (suc (suc (suc (suc (suc (suc zero))))))) h = refl
-padded-same bs (suc (suc (suc (suc (suc (suc (suc (suc i)))))))) h = absurd (omega arith)
 
 -- i bytes and one more are below 256 to the power i + 1
 pub below-step : (n b i : ℕ) → n < 256 ^ i → b < 256 → n * 256 + b < 256 ^ (i + 1)

@@ -3,15 +3,22 @@ ghost use mathlib.Core.Path.{_≡_};
 ghost use Prim.Native.Nat.{_≤_};
 ghost use lib.ListN.{length, take, drop};
 
+// The place `at`, or the end where `at` is past it: nothing stands at either.
+pub fn cut(s: &[u8], at: usize) -> usize
+    ensures { λ r. ⌜ (r ≤ length (now (s .entry))) × (drop r (now (s .entry)) ≡ drop at (now (s .entry))) ⌝ }
+{
+    if at < s.len() {
+        return at;
+    }
+    s.len()
+}
+
 // The slice from `at` on.
 pub fn from(s: &[u8], at: usize) -> &[u8]
     ensures { λ r. ⌜ now r ≡ drop at (now (s .entry)) ⌝ }
 {
-    if at <= s.len() {
-        return &s[at..];
-    }
-    let end = s.len();
-    &s[end..]
+    let start = cut(s, at);
+    &s[start..]
 }
 
 // The `n` bytes from `at` on.

@@ -1,10 +1,11 @@
 // Numbers read at a place. A byte past the end of the slice counts as 0.
 ghost use mathlib.Core.Path.{_≡_};
-ghost use Prim.Native.Nat.{_≤_, _<_, _^_};
+ghost use Prim.Native.Nat.{_+_, _≤_, _<_, _^_};
 ghost use lib.ListN.{length, drop, getD};
 ghost use lib.Ieee.{binary32, ofBits};
 ghost use Rattle.labels.specs.Bytes.{be, signed, float};
 ghost use Rattle.wire.specs.Padded.{paddedOf};
+ghost use Rattle.wire.specs.Signed.{asSigned};
 
 // The byte at `at`.
 pub fn byte_at(s: &[u8], at: usize) -> u8
@@ -36,20 +37,15 @@ fn number_of(row: &[u8], width: usize) -> u64
     n
 }
 
-// The first 8 bytes, with 0 for each that is missing.
-fn padded(row: &[u8]) -> [u8; 8]
-    ensures { λ r. ⌜ r ≡ paddedOf (now (row .entry)) ⌝ }
+// Fills `out` with the first bytes of the row, and with 0 for each that is missing.
+pub fn pad(out: &mut [u8], row: &[u8])
+    ensures { λ _. ⌜ now (out .exit) ≡ paddedOf (length (now (out .entry))) (now (row .entry)) ⌝ }
 {
-    [
-        byte_at(row, 0),
-        byte_at(row, 1),
-        byte_at(row, 2),
-        byte_at(row, 3),
-        byte_at(row, 4),
-        byte_at(row, 5),
-        byte_at(row, 6),
-        byte_at(row, 7),
-    ]
+    let mut i: usize = 0;
+    while i < out.len() {
+        out[i] = byte_at(row, i);
+        i += 1;
+    }
 }
 
 // The number that the `width` bytes at `at` hold. They are nearly always there, and then no byte is asked whether it is.
@@ -61,7 +57,8 @@ pub fn number_at(s: &[u8], at: usize, width: usize) -> u64
     if width <= row.len() {
         return number_of(row, width);
     }
-    let bytes = padded(row);
+    let mut bytes = [0; 8];
+    pad(&mut bytes, row);
     number_of(&bytes, width)
 }
 
@@ -83,24 +80,35 @@ pub fn u32_at(s: &[u8], at: usize) -> u32
     number_at(s, at, 4) as u32
 }
 
-pub fn i16_at(s: &[u8], at: usize) -> i16
-    ensures { λ r. ⌜ r ≡ signed 2 (drop at (now (s .entry))) ⌝ }
+// `n` as a signed number.
+fn i16_of(n: u16) -> i16
+    ensures { λ r. ⌜ r ≡ asSigned 2 n ⌝ }
 {
-    let n = u16_at(s, at);
     if n < 0x8000 {
         return n as i16;
     }
     -1 - ((0xffff - n) as i16)
 }
 
-pub fn i32_at(s: &[u8], at: usize) -> i32
-    ensures { λ r. ⌜ r ≡ signed 4 (drop at (now (s .entry))) ⌝ }
+pub fn i16_at(s: &[u8], at: usize) -> i16
+    ensures { λ r. ⌜ r ≡ signed 2 (drop at (now (s .entry))) ⌝ }
 {
-    let n = u32_at(s, at);
+    i16_of(u16_at(s, at))
+}
+
+fn i32_of(n: u32) -> i32
+    ensures { λ r. ⌜ r ≡ asSigned 4 n ⌝ }
+{
     if n < 0x8000_0000 {
         return n as i32;
     }
     -1 - ((0xffff_ffff - n) as i32)
+}
+
+pub fn i32_at(s: &[u8], at: usize) -> i32
+    ensures { λ r. ⌜ r ≡ signed 4 (drop at (now (s .entry))) ⌝ }
+{
+    i32_of(u32_at(s, at))
 }
 
 // The float of a pattern. Every pattern of a NaN gives a NaN.
@@ -117,4 +125,55 @@ pub fn f32_at(s: &[u8], at: usize) -> f32
     ensures { λ r. ⌜ r ≡ float (drop at (now (s .entry))) ⌝ }
 {
     f32_of(u32_at(s, at))
+}
+
+// ---- the same of bytes that are known to be there: no byte is asked whether it is
+
+fn number_within(s: &[u8], at: usize, width: usize) -> u64
+    requires { ⌜ (width ≤ 8) × (at + width ≤ length (now s)) ⌝ }
+    ensures { λ r. ⌜ (r ≡ be width (drop at (now (s .entry)))) × (r < 256 ^ width) ⌝ }
+{
+    number_of(&s[at..], width)
+}
+
+pub fn u8_within(s: &[u8], at: usize) -> u8
+    requires { ⌜ at + 1 ≤ length (now s) ⌝ }
+    ensures { λ r. ⌜ r ≡ be 1 (drop at (now (s .entry))) ⌝ }
+{
+    number_within(s, at, 1) as u8
+}
+
+pub fn u16_within(s: &[u8], at: usize) -> u16
+    requires { ⌜ at + 2 ≤ length (now s) ⌝ }
+    ensures { λ r. ⌜ r ≡ be 2 (drop at (now (s .entry))) ⌝ }
+{
+    number_within(s, at, 2) as u16
+}
+
+pub fn u32_within(s: &[u8], at: usize) -> u32
+    requires { ⌜ at + 4 ≤ length (now s) ⌝ }
+    ensures { λ r. ⌜ r ≡ be 4 (drop at (now (s .entry))) ⌝ }
+{
+    number_within(s, at, 4) as u32
+}
+
+pub fn i16_within(s: &[u8], at: usize) -> i16
+    requires { ⌜ at + 2 ≤ length (now s) ⌝ }
+    ensures { λ r. ⌜ r ≡ signed 2 (drop at (now (s .entry))) ⌝ }
+{
+    i16_of(u16_within(s, at))
+}
+
+pub fn i32_within(s: &[u8], at: usize) -> i32
+    requires { ⌜ at + 4 ≤ length (now s) ⌝ }
+    ensures { λ r. ⌜ r ≡ signed 4 (drop at (now (s .entry))) ⌝ }
+{
+    i32_of(u32_within(s, at))
+}
+
+pub fn f32_within(s: &[u8], at: usize) -> f32
+    requires { ⌜ at + 4 ≤ length (now s) ⌝ }
+    ensures { λ r. ⌜ r ≡ float (drop at (now (s .entry))) ⌝ }
+{
+    f32_of(u32_within(s, at))
 }

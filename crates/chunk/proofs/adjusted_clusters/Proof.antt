@@ -16,8 +16,8 @@ apply-length-adjust-requires : tie.Need-apply-length-adjust-requires
 apply-length-adjust-requires c κs =
     let formed = c .before .before .before .before .before .before .before .before .before .before .before .before .before .before .collapsed-clusters in
     let given = c .before .before .before .before .before .before .before .before .before .before .before .before .before .before .before .before .before .before .before .before .before .before .before .before .before .pre in
-    let few = formed .ensures .1 in
-    (omega (arith, given .3), omega (arith, given .4), omega (arith, given .1), omega (arith, given .2), omega (arith, given .5), formed .ensures .2)
+    let all = formed .ensures .2 in
+    (omega (arith, given .3), omega (arith, given .4), omega (arith, given .1), omega (arith, given .2), omega (arith, formed .ensures .1, given .5), formed .ensures .3)
 
 enum-told : tie.Need-enum-told
 enum-told c = search needs
@@ -43,10 +43,10 @@ returns c =
     let words = c .before .before .before .before .before .before .before .before .before .before .before .before .apply-word-spacing in
     let formed = c .before .before .before .before .before .before .before .before .before .before .before .before .before .before .before .before .before .before .before .before .before .collapsed-clusters in
     let given = c .before .before .before .before .before .before .before .before .before .before .before .before .before .before .before .before .before .before .before .before .before .before .before .before .before .before .before .before .before .before .before .before .pre in
-    let few = formed .ensures .1 in
+    let all = formed .ensures .2 in
     let kept = done-kept _ _ _ _ (formed .result) (omega (arith, given .1)) (omega (arith, given .2)) (omega (arith, given .1)) (omega (arith, given .2)) _ (adjusted .result) (c .enum-told .given .1) (adjusted .ensures) in (
       done-formed (adjusted .result) _ (formed .result) _ (adjusted .ensures ∙ steps _ _ _ _ _ (words .ensures) (formed .ensures .0)) (c .enum-told .given .1),
-      (formed .ensures .1, rw kept (formed .ensures .2)),
+      (omega (arith, all), rw kept (formed .ensures .3)),
     )
 
 same-length-5 : tie.Need-same-length-5

@@ -33,6 +33,7 @@ returns c =
     let formed = c .before .before .before .before .before .before .before .before .before .before .before .before .before .before .before .form-clusters in (
       rw (spaced .ensures .0, formed .ensures .0),
       formed .ensures .1,
+      formed .ensures .2,
       rw (spaced .ensures .1) (ordered .ensures),
     )
 

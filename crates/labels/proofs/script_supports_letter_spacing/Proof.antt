@@ -14,10 +14,10 @@ use Rattle.labels.proofs.script_supports_letter_spacing.Statement.{stat
 use Rattle.labels.proofs.script_supports_letter_spacing.Tie as tie
 
 abbrev Inv-loop : tie.InvT-loop
-Inv-loop t i₀ i = (i ≤ 16) × (among t (drop i unspaced) ≡ among t unspaced)
+Inv-loop t tags i₀ i = (i ≤ 16) × (among t (drop i unspaced) ≡ among t unspaced)
 
 abbrev μ-loop : tie.MeasureT-loop
-μ-loop t i₀ i = 16 - i
+μ-loop t tags i₀ i = 16 - i
 
 loop-holds : tie.Need-loop-holds Inv-loop μ-loop
 loop-holds c = (omega arith, refl)

@@ -3,16 +3,18 @@ use mathlib.Core.Path.{sym, subst, _∙_}
 use native.Mathlib.Omega.{arith}
 use Rattle.labels.specs.Answer.{answerHeadSize}
 use Rattle.layout.specs.Checked.{Short}
-use Rattle.layout.specs.Steps.{jobLaid, single, IfGoing}
+use Rattle.laid_chunk.specs.Steps.{IfGoing}
+use Rattle.layout.specs.Steps.{jobLaid}
 use Rattle.layout.proofs.Single.{count-of-chunks}
 use Rattle.layout.proofs.Outcomes.{refused-of, given-of}
-use Rattle.layout.proofs.Answering.{rows-many, reached-length, longer, fits-of, answers-refused, answers-too-long, answers-written}
+use Rattle.layout.proofs.Copied.{end-length}
+use Rattle.layout.proofs.Answering.{rows-many, answers-refused, answers-too-long, answers-written}
 use borrow.Author.Needs.{needs}
 use Rattle.layout.proofs.laid_out.Statement.{statement}
 use Rattle.layout.proofs.laid_out.Tie as tie
 
-first-pass-requires : tie.Need-first-pass-requires
-first-pass-requires c κs = search needs
+put-chunks-requires : tie.Need-put-chunks-requires
+put-chunks-requires c κs = search needs
 
 enum-known-number : tie.Need-enum-known-number
 enum-known-number c = search needs
@@ -26,37 +28,27 @@ same-length c = search needs
 returns : tie.Need-returns
 returns c =
     let start = c .before .before .before .before .before .before .before .before .before .before .before in
-    let first = c .before .before .before .before .before .before .before .first-pass in
+    let first = c .before .before .before .before .before .before .before .put-chunks in
     let told = c .before .before .before .end .given in
-    let is = given-of answerHeadSize (jobLaid (start .args .s .now)) (told .0 .0) (sym (told .1) ∙ first .ensures .0) in
-    answers-too-long (jobLaid (start .args .s .now)) (start .args .answer .now) (is .0) (is .1) (single (start .args .s .now))
-    (longer (is .0) (is .2) (omega (arith, c .if1 .taken, first .kept .1 .1 .0))) (first .ensures .2)
+    let is = given-of answerHeadSize (jobLaid (start .args .s .now)) (told .0 .0) (sym (told .1) ∙ first .ensures .laid) in
+    answers-too-long (jobLaid (start .args .s .now)) (start .args .answer .now) (is .0) (is .1)
+    (omega (arith, end-length (is .0) (is .2), c .if1 .taken, first .kept .1 .1 .0)) (first .ensures .buffer)
 
-second-pass-requires : tie.Need-second-pass-requires
-second-pass-requires c κs =
-    let start = c .before .before .before .before .before .before .before .before .before .before .before .before in
-    let first = c .before .before .before .before .before .before .before .before .first-pass in
-    let told = c .before .before .before .before .end .given in
-    let is = given-of answerHeadSize (jobLaid (start .args .s .now)) (told .0 .0) (sym (told .1) ∙ first .ensures .0) in
-    (start .pre, fits-of (is .0) (is .2) (is .1) (c .before .if1 .left))
-
-from-requires : tie.Need-from-requires
-from-requires c κs = search needs
-
-chunk-count-requires : tie.Need-chunk-count-requires
-chunk-count-requires c κs = search needs
+count-of-requires : tie.Need-count-of-requires
+count-of-requires c κs =
+    c .before .before .before .before .before .before .before .before .before .before .before .before .pre .places
 
 cast-put-answer-head : tie.Need-cast-put-answer-head
 cast-put-answer-head c = search needs
 
 put-answer-head-requires : tie.Need-put-answer-head-requires
 put-answer-head-requires c κs =
-    let start = c .before .before .before .before .before .before .before .before .before .before .before .before .before .before .before .before .before .before in
-    let first = c .before .before .before .before .before .before .before .before .before .before .before .before .before .before .first-pass in
-    let told = c .before .before .before .before .before .before .before .before .before .before .end .given in
-    let is = given-of answerHeadSize (jobLaid (start .args .s .now)) (told .0 .0) (sym (told .1) ∙ first .ensures .0) in
-    let long = reached-length (is .0) (is .2) in
-    (omega (arith, long, c .before .before .before .before .before .before .before .if1 .left, c .before .before .before .before .before .second-pass .kept .1 .1 .0, first .kept .1 .1 .0), omega (arith, long))
+    let start = c .before .before .before .before .before .before .before .before .before .before .before .before .before in
+    let first = c .before .before .before .before .before .before .before .before .before .put-chunks in
+    let told = c .before .before .before .before .before .end .given in
+    let is = given-of answerHeadSize (jobLaid (start .args .s .now)) (told .0 .0) (sym (told .1) ∙ first .ensures .laid) in
+    let long = end-length (is .0) (is .2) in
+    (omega (arith, long, c .before .before .if1 .left, first .kept .1 .1 .0), omega (arith, long))
 
 same-length-2 : tie.Need-same-length-2
 same-length-2 c = search needs
@@ -64,39 +56,37 @@ same-length-2 c = search needs
 returns-2 : tie.Need-returns-2
 returns-2 c =
     let start = c .before .before .before .before .before .before .before .before .before in
-    let first = c .before .before .before .before .before .first-pass in
+    let first = c .before .before .before .before .before .put-chunks in
     let told = c .before .number .given in
-    answers-refused (jobLaid (start .args .s .now)) (start .args .answer .now) (single (start .args .s .now)) (told .0 .0)
-    (refused-of answerHeadSize (jobLaid (start .args .s .now)) (told .0 .0) (sym (told .1) ∙ first .ensures .0)) (first .ensures .2)
+    answers-refused (jobLaid (start .args .s .now)) (start .args .answer .now) (told .0 .0)
+    (refused-of answerHeadSize (jobLaid (start .args .s .now)) (told .0 .0) (sym (told .1) ∙ first .ensures .laid)) (first .ensures .buffer)
 
 same-length-3 : tie.Need-same-length-3
 same-length-3 c = search needs
 
 returns-3 : tie.Need-returns-3
 returns-3 c =
-    let start = c .before .before .before .before .before .before .before .before .before .before .before .before .before .before .before .before .before .before .before .before .before in
-    let first = c .before .before .before .before .before .before .before .before .before .before .before .before .before .before .before .before .before .first-pass in
-    let told = c .before .before .before .before .before .before .before .before .before .before .before .before .before .end .given in
+    let start = c .before .before .before .before .before .before .before .before .before .before .before .before .before .before .before .before in
+    let first = c .before .before .before .before .before .before .before .before .before .before .before .before .put-chunks in
+    let told = c .before .before .before .before .before .before .before .before .end .given in
     let s = start .args .s .now in
-    let is = given-of answerHeadSize (jobLaid s) (told .0 .0) (sym (told .1) ∙ first .ensures .0) in
+    let is = given-of answerHeadSize (jobLaid s) (told .0 .0) (sym (told .1) ∙ first .ensures .laid) in
     let counted = c .before .before .before in
-    let long = reached-length (is .0) (is .2) in
-    answers-written (jobLaid s) (start .args .answer .now) (is .0) (is .1) (single s) (told .0 .0 .length) (counted .chunk-count .result) (subst (IfGoing Short) (told .1) (first .ensures .1)) (omega (arith, long, c .before .before .before .before .before .before .before .before .before .before .if1 .left, first .kept .1 .1 .0))
-    long (count-of-chunks s (counted .chunk-count .ensures .0) (counted .before .from .ensures) ∙ sym (rows-many s (is .0) (is .1)))
-    (first .ensures .2) (c .before .before .before .before .before .before .before .before .second-pass .ensures) (c .before .before .put-answer-head .ensures)
+    let long = end-length (is .0) (is .2) in
+    answers-written (jobLaid s) (start .args .answer .now) (is .0) (is .1) (told .0 .0 .length) (counted .count-of .result) (subst (IfGoing Short) (told .1) (first .ensures .short)) (omega (arith, long, c .before .before .before .before .before .if1 .left, first .kept .1 .1 .0))
+    long (count-of-chunks s (counted .count-of .ensures .0) ∙ sym (rows-many s (is .0) (is .1)))
+    (first .ensures .buffer) (c .before .before .put-answer-head .ensures)
 
 pub laid-out-spec : {M : Type 1} → statement M
 laid-out-spec =
     tie.close
     (tie.spec
-    first-pass-requires
+    put-chunks-requires
     enum-known-number
     enum-known-end
     same-length
     returns
-    second-pass-requires
-    from-requires
-    chunk-count-requires
+    count-of-requires
     cast-put-answer-head
     put-answer-head-requires
     same-length-2

@@ -1,11 +1,13 @@
 -- `answer::cluster::put_cluster_rows` meets its contract. Assumes nothing.
 use Prim.Native.Nat.{ℕ, _+_, _-_, _≤_}
-use mathlib.Core.Path.{_∙_, ap}
+use mathlib.Core.Path.{refl, _∙_, ap}
+use mathlib.Core.List.{[]}
+use lib.ListN.{getD}
 use native.Mathlib.Omega.{arith}
 use Rattle.lookup.specs.Rows.{glyphsIn}
-use Rattle.clusters.specs.Clusters.{clustersOf}
+use Rattle.clusters.specs.Clusters.{clusterOf, clustersOf}
 use Rattle.forming.proofs.Glyphs.{glyphs-length}
-use Rattle.answer.proofs.ClusterRows.{ClustersLeft, length-rows, row-size, cluster-room, cluster-turn, clusters-done}
+use Rattle.answer.proofs.ClusterRows.{ClustersLeft, length-rows, cluster-room, cluster-turn, clusters-done}
 use Rattle.answer.proofs.Puts.{put-start}
 use borrow.Author.Needs.{needs}
 use Rattle.answer.proofs.cluster.put_cluster_rows.Statement.{statement}
@@ -26,32 +28,28 @@ loop-holds c =
     let size = length-rows (a .mode) gs (a .count) (glyphs-length (a .s .now) (a .rows .now) (a .count) (given .2)) (clustersOf (a .floats .now) (a .words .now) (a .n)) in
     (omega arith, put-start (omega (arith, given .0)))
 
-cluster-at-requires : tie.Need-cluster-at-requires Inv-loop μ-loop
-cluster-at-requires c κs = search needs
+mul-put-cluster-row : tie.Need-mul-put-cluster-row Inv-loop μ-loop
+mul-put-cluster-row c = search needs
+
+shared-slice-element-put-cluster-row : tie.Need-shared-slice-element-put-cluster-row Inv-loop μ-loop
+shared-slice-element-put-cluster-row c = search needs
+
+mul-put-cluster-row-2 : tie.Need-mul-put-cluster-row-2 Inv-loop μ-loop
+mul-put-cluster-row-2 c = search needs
+
+shared-slice-element-put-cluster-row-2 : tie.Need-shared-slice-element-put-cluster-row-2 Inv-loop μ-loop
+shared-slice-element-put-cluster-row-2 c = search needs
 
 put-cluster-row-requires : tie.Need-put-cluster-row-requires Inv-loop μ-loop
 put-cluster-row-requires c κs =
-    let read = c .before in
-    let l = read .before .before .loop in
-    let a = read .before .before .before .before .before .before .args in
-    let given = read .before .before .before .before .before .before .pre in (
-      cluster-room (a .mode) (glyphsIn (a .s .now) (a .rows .now) (a .count)) (a .floats .now) (a .words .now) (a .n) (given .3) (given .4) (l .i) (l .inv .1) (read .cluster-at .result) (read .cluster-at .ensures) (omega arith),
+    let l = c .before .before .before .before .loop in
+    let start = c .before .before .before .before .before .before .before .before in
+    let a = start .args in
+    let given = start .pre in (
+      cluster-room (a .mode) (glyphsIn (a .s .now) (a .rows .now) (a .count)) (a .floats .now) (a .words .now) (a .n) (given .3) (given .4) (l .i) (l .inv .1) (clusterOf (getD (a .floats .now) (l .i) []) (getD (a .words .now) (l .i) [])) refl (omega arith),
       given .2,
       given .5,
     )
-
-cluster-row-length-requires : tie.Need-cluster-row-length-requires Inv-loop μ-loop
-cluster-row-length-requires c κs = search needs
-
-add-here : tie.Need-add-here Inv-loop μ-loop
-add-here c =
-    let read = c .before .before .before .before .before in
-    let l = read .before .before .loop in
-    let a = read .before .before .before .before .before .before .args in
-    let given = read .before .before .before .before .before .before .pre in
-    let gs = glyphsIn (a .s .now) (a .rows .now) (a .count) in
-    let size = row-size (a .mode) gs (a .count) (glyphs-length (a .s .now) (a .rows .now) (a .count) (given .2)) (read .cluster-at .result) in
-    omega (arith, cluster-room (a .mode) gs (a .floats .now) (a .words .now) (a .n) (given .3) (given .4) (l .i) (l .inv .1) (read .cluster-at .result) (read .cluster-at .ensures) (omega arith))
 
 add-i : tie.Need-add-i Inv-loop μ-loop
 add-i c = search needs
@@ -61,16 +59,14 @@ loop-less c = search needs
 
 loop-again : tie.Need-loop-again Inv-loop μ-loop
 loop-again c =
-    let put = c .before .before .before in
-    let read = put .before .before in
-    let l = read .before .before .loop in
-    let a = read .before .before .before .before .before .before .args in
-    let given = read .before .before .before .before .before .before .pre in
-    let gs = glyphsIn (a .s .now) (a .rows .now) (a .count) in
-    let size = row-size (a .mode) gs (a .count) (glyphs-length (a .s .now) (a .rows .now) (a .count) (given .2)) (read .cluster-at .result) in (
+    let put = c .before .before .put-cluster-row in
+    let l = c .before .before .before .before .before .before .before .loop in
+    let start = c .before .before .before .before .before .before .before .before .before .before .before in
+    let a = start .args in
+    let given = start .pre in
+    let d = clusterOf (getD (a .floats .now) (l .i) []) (getD (a .words .now) (l .i) []) in (
       omega arith,
-      cluster-turn (a .mode) gs (a .floats .now) (a .words .now) (a .n) (given .3) (given .4) (l .i) (l .inv .1) (read .cluster-at .result) (read .cluster-at .ensures) (omega arith) (put .put-cluster-row .ensures)
-          (omega (arith, c .cluster-row-length .ensures .0)),
+      cluster-turn (a .mode) (glyphsIn (a .s .now) (a .rows .now) (a .count)) (a .floats .now) (a .words .now) (a .n) (given .3) (given .4) (l .i) (l .inv .1) d refl (omega arith) (put .ensures .0) (put .ensures .1),
     )
 
 same-length : tie.Need-same-length Inv-loop μ-loop
@@ -93,10 +89,11 @@ put-cluster-rows-spec =
     Inv-loop
     μ-loop
     loop-holds
-    cluster-at-requires
+    mul-put-cluster-row
+    shared-slice-element-put-cluster-row
+    mul-put-cluster-row-2
+    shared-slice-element-put-cluster-row-2
     put-cluster-row-requires
-    cluster-row-length-requires
-    add-here
     add-i
     loop-less
     loop-again

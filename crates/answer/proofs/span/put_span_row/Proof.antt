@@ -12,11 +12,11 @@ use borrow.Author.Needs.{needs}
 use Rattle.answer.proofs.span.put_span_row.Statement.{statement}
 use Rattle.answer.proofs.span.put_span_row.Tie as tie
 
-span-row-floats-requires : tie.Need-span-row-floats-requires
-span-row-floats-requires c κs = search needs
-
 span-at-requires : tie.Need-span-at-requires
 span-at-requires c κs = search needs
+
+span-row-floats-requires : tie.Need-span-row-floats-requires
+span-row-floats-requires c κs = c .span-at .ensures
 
 collect-decoration-spans-requires : tie.Need-collect-decoration-spans-requires
 collect-decoration-spans-requires c κs = search needs
@@ -34,7 +34,7 @@ put-runs-requires c κs =
     let job = jobWith (a .mode) (fontsIn (a .s .now) (a .fonts)) in
     let cs = clustersOf (a .floats .now) (a .words .now) (a .n) in
     let got = c .before .before .before .before .before .before .before .before .before .before .before .before .collect-decoration-spans in
-    let runs = row-runs job (a .origin) cs (a .k) (a .s .now) (a .place) (got .last .1 .1 .1 .1 .0) (got .last .1 .1 .1 .1 .1 .0) (got .result) (c .before .before .before .before .before .before .before .before .before .before .before .before .before .before .before .span-at .ensures) (got .ensures) (s .pre .3) (got .kept .1 .1 .1 .1 .0) (s .pre .4) (got .kept .1 .1 .1 .1 .1 .0) in
+    let runs = row-runs job (a .origin) cs (a .k) (a .s .now) (a .place) (got .last .1 .1 .1 .1 .0) (got .last .1 .1 .1 .1 .1 .0) (got .result) (c .before .before .before .before .before .before .before .before .before .before .before .before .before .before .before .before .span-at .ensures) (got .ensures) (s .pre .3) (got .kept .1 .1 .1 .1 .0) (s .pre .4) (got .kept .1 .1 .1 .1 .1 .0) in
     (runs .0, runs .1, omega (arith, runs .2, s .pre .5))
 
 mul-result : tie.Need-mul-result
@@ -47,7 +47,7 @@ add-result c =
     let job = jobWith (a .mode) (fontsIn (a .s .now) (a .fonts)) in
     let cs = clustersOf (a .floats .now) (a .words .now) (a .n) in
     let got = c .before .before .before .before .before .before .before .before .before .before .before .before .before .before .before .collect-decoration-spans in
-    let runs = row-runs job (a .origin) cs (a .k) (a .s .now) (a .place) (got .last .1 .1 .1 .1 .0) (got .last .1 .1 .1 .1 .1 .0) (got .result) (c .before .before .before .before .before .before .before .before .before .before .before .before .before .before .before .before .before .before .span-at .ensures) (got .ensures) (s .pre .3) (got .kept .1 .1 .1 .1 .0) (s .pre .4) (got .kept .1 .1 .1 .1 .1 .0) in
+    let runs = row-runs job (a .origin) cs (a .k) (a .s .now) (a .place) (got .last .1 .1 .1 .1 .0) (got .last .1 .1 .1 .1 .1 .0) (got .result) (c .before .before .before .before .before .before .before .before .before .before .before .before .before .before .before .before .before .before .before .span-at .ensures) (got .ensures) (s .pre .3) (got .kept .1 .1 .1 .1 .0) (s .pre .4) (got .kept .1 .1 .1 .1 .1 .0) in
     record { fits = omega (arith, runs .2, s .pre .5) }
 
 same-length : tie.Need-same-length
@@ -67,8 +67,8 @@ returns c =
     let job = jobWith (a .mode) (fontsIn (a .s .now) (a .fonts)) in
     let cs = clustersOf (a .floats .now) (a .words .now) (a .n) in
     let got = c .before .before .before .before .before .before .before .before .before .before .before .before .before .before .before .collect-decoration-spans in
-    let runs = row-runs job (a .origin) cs (a .k) (a .s .now) (a .place) (got .last .1 .1 .1 .1 .0) (got .last .1 .1 .1 .1 .1 .0) (got .result) (c .before .before .before .before .before .before .before .before .before .before .before .before .before .before .before .before .before .before .span-at .ensures) (got .ensures) (s .pre .3) (got .kept .1 .1 .1 .1 .0) (s .pre .4) (got .kept .1 .1 .1 .1 .1 .0) in
-    let values = c .before .before .before .before .before .before .before .before .before .before .before .before .before .before .before .before .before .before .before .span-row-floats .ensures cs (a .k) in (
+    let runs = row-runs job (a .origin) cs (a .k) (a .s .now) (a .place) (got .last .1 .1 .1 .1 .0) (got .last .1 .1 .1 .1 .1 .0) (got .result) (c .before .before .before .before .before .before .before .before .before .before .before .before .before .before .before .before .before .before .before .span-at .ensures) (got .ensures) (s .pre .3) (got .kept .1 .1 .1 .1 .0) (s .pre .4) (got .kept .1 .1 .1 .1 .1 .0) in
+    let values = c .before .before .before .before .before .before .before .before .before .before .before .before .before .before .before .before .before .before .span-row-floats .ensures cs (a .k) in (
       omega (arith, runs .2),
       row-put (a .out .now) (a .at) (spanRow job (a .origin) cs (a .k) (partsOf (drop (a .place) (a .s .now)))) values (runs .3) (runs .2) refl (c .before .before .before .before .before .before .before .before .put-span-head .ensures) (c .before .before .put-runs .ensures) (s .pre .5),
     )
@@ -77,8 +77,8 @@ pub put-span-row-spec : {M : Type 1} → statement M
 put-span-row-spec =
     tie.close
     (tie.spec
-    span-row-floats-requires
     span-at-requires
+    span-row-floats-requires
     collect-decoration-spans-requires
     add-runs-at
     put-span-head-requires

@@ -6,14 +6,11 @@ use borrow.Author.Needs.{needs}
 use Rattle.answer.proofs.span.span_row_floats.Statement.{statement}
 use Rattle.answer.proofs.span.span_row_floats.Tie as tie
 
-span-at-requires : tie.Need-span-at-requires
-span-at-requires c κs = search needs
-
 font-in-requires : tie.Need-font-in-requires
 font-in-requires c κs = search needs
 
 resolve-baseline-requires : tie.Need-resolve-baseline-requires
-resolve-baseline-requires c κs = search needs
+resolve-baseline-requires c κs = c .before .before .pre
 
 thickness-requires : tie.Need-thickness-requires
 thickness-requires c κs = search needs
@@ -30,7 +27,7 @@ through-offset-requires c κs = search needs
 returns : tie.Need-returns
 unfolding spanRow partsOf
 returns c cs k =
-    let span = c .before .before .before .before .before .before .span-at .ensures in
+    let span = c .before .before .before .before .before .before .before .pre in
     let font = c .before .before .before .before .before .font-in .ensures in
     let shift = c .before .before .before .before .resolve-baseline .ensures in
     let thick = c .before .before .before .thickness .ensures in
@@ -43,7 +40,6 @@ pub span-row-floats-spec : {M : Type 1} → statement M
 span-row-floats-spec =
     tie.close
     (tie.spec
-    span-at-requires
     font-in-requires
     resolve-baseline-requires
     thickness-requires

@@ -7,9 +7,6 @@ use borrow.Author.Needs.{needs}
 use Rattle.baseline.proofs.resolve.resolve_baseline.Statement.{statement}
 use Rattle.baseline.proofs.resolve.resolve_baseline.Tie as tie
 
-span-at-requires : tie.Need-span-at-requires
-span-at-requires c κs = search needs
-
 from-requires : tie.Need-from-requires
 from-requires c κs = search needs
 
@@ -29,31 +26,30 @@ returns : tie.Need-returns
 unfolding resolveBaseline partsOf
 returns c =
     rw (
-      eq-eqb (c .before .before .before .before .before .before .before .before .args .mode) 0 (omega arith),
+      eq-eqb (c .before .before .before .before .before .before .before .args .mode) 0 (omega arith),
       c .before .before .before .resolve-baseline-shift .ensures,
       c .before .before .before .before .shift-count .ensures .0,
       c .before .before .before .before .before .from .ensures,
       c .alignment-baseline-shift .ensures,
       c .before .span-alignment .ensures,
-      c .before .before .before .before .before .before .span-at .ensures,
+      c .before .before .before .before .before .before .before .pre,
     )
 
 returns-2 : tie.Need-returns-2
 unfolding resolveBaseline partsOf
 returns-2 c =
     rw (
-      ne-eqb (c .before .before .before .before .before .before .args .mode) 0 (λ e. omega arith),
+      ne-eqb (c .before .before .before .before .before .args .mode) 0 (λ e. omega arith),
       c .before .resolve-baseline-shift .ensures,
       c .before .before .shift-count .ensures .0,
       c .before .before .before .from .ensures,
-      c .before .before .before .before .span-at .ensures,
+      c .before .before .before .before .before .pre,
     )
 
 pub resolve-baseline-spec : {M : Type 1} → statement M
 resolve-baseline-spec =
     tie.close
     (tie.spec
-    span-at-requires
     from-requires
     shift-count-requires
     resolve-baseline-shift-requires

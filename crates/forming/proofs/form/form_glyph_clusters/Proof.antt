@@ -1,17 +1,16 @@
 -- `forming::form::form_glyph_clusters` meets its contract: field by field. Assumes nothing.
 use native.Mathlib.Omega.{arith}
+use mir.Facts.{toZ-ofZ}
+use borrow.Author.Tests.{leb-true}
 use Rattle.labels.specs.Cluster.{formGlyphClusters}
 use Rattle.forming.specs.Groups.{groupIn}
-use Rattle.forming.proofs.Glyphs.{part-length}
+use Rattle.forming.proofs.Glyphs.{width-next, part-length}
 use borrow.Author.Needs.{needs}
 use Rattle.forming.proofs.form.form_glyph_clusters.Statement.{statement}
 use Rattle.forming.proofs.form.form_glyph_clusters.Tie as tie
 
-span-in-requires : tie.Need-span-in-requires
-span-in-requires c κs = search needs
-
-glyph-advances-requires : tie.Need-glyph-advances-requires
-glyph-advances-requires c κs = search needs
+size-in-requires : tie.Need-size-in-requires
+size-in-requires c κs = search needs
 
 place-in-requires : tie.Need-place-in-requires
 place-in-requires c κs = search needs
@@ -21,6 +20,32 @@ glyph-at-requires c κs = search needs
 
 font-in-requires : tie.Need-font-in-requires
 font-in-requires c κs = search needs
+
+measure-units-requires : tie.Need-measure-units-requires
+measure-units-requires c κs =
+    let at-first = c .before .before in
+    let start = at-first .before .before .before .before .before .before in
+    let a = start .args in
+    let h = start .pre in
+    rw (toZ-ofZ (record { sfits = c .struct-told .given .1 .1 .1 .1 .1 .0 .1 }), at-first .glyph-at .ensures, at-first .before .place-in .ensures)
+    (leb-true _ _ (width-next (a .s .now) (a .rows .now) (a .end) (a .from) (h .0) (h .1) (h .4)))
+
+glyph-advances-requires : tie.Need-glyph-advances-requires
+glyph-advances-requires c κs =
+    let told = c .before in
+    let at-first = told .before .before in
+    let h = at-first .before .before .before .before .before .before .pre in (
+      h .0,
+      h .1,
+      h .4,
+      rw (
+        c .measure-units .ensures,
+        toZ-ofZ (record { sfits = told .struct-told .given .1 .1 .1 .1 .1 .0 .1 }),
+        told .before .font-in .ensures,
+        at-first .glyph-at .ensures,
+        at-first .before .place-in .ensures,
+      ),
+    )
 
 ascent-requires : tie.Need-ascent-requires
 ascent-requires c κs = search needs
@@ -32,35 +57,37 @@ cast-t16 : tie.Need-cast-t16
 cast-t16 c = search needs
 
 cast-t18 : tie.Need-cast-t18
-cast-t18 c = let h = c .before .before .before .before .before .before .before .before .before .before .before .before .pre in omega arith
+cast-t18 c = let h = c .before .before .before .before .before .before .before .before .before .before .before .before .before .before .pre in omega arith
 
 cast-t19 : tie.Need-cast-t19
-cast-t19 c = let h = c .before .before .before .before .before .before .before .before .before .before .before .before .pre in omega arith
+cast-t19 c = let h = c .before .before .before .before .before .before .before .before .before .before .before .before .before .before .pre in omega arith
 
 sub-t15 : tie.Need-sub-t15
-sub-t15 c = let h = c .before .before .before .before .before .before .before .before .before .before .before .before .pre in omega arith
+sub-t15 c = let h = c .before .before .before .before .before .before .before .before .before .before .before .before .before .before .pre in omega arith
 
 cast-t20 : tie.Need-cast-t20
-cast-t20 c = let h = c .before .before .before .before .before .before .before .before .before .before .before .before .pre in omega arith
+cast-t20 c = let h = c .before .before .before .before .before .before .before .before .before .before .before .before .before .before .pre in omega arith
 
 returns : tie.Need-returns
 unfolding formGlyphClusters groupIn
 returns c =
-    let start = c .before .before .before .before .before .before .before .before .before .before .before .before in
-    let a = start .args in
-    let h = start .pre in
     let at-ascent = c .before .before .before in
-    let at-first = at-ascent .before .before in
-    let at-advances = at-first .before .before in (
+    let at-advances = at-ascent .before in
+    let at-font = at-advances .before .before .before in
+    let at-first = at-font .before in
+    let at-size = at-first .before .before in
+    let start = at-size .before .before .before .before in
+    let a = start .args in
+    let h = start .pre in (
       rw (
         c .before .before .descent .ensures,
         at-ascent .ascent .ensures,
-        at-ascent .before .font-in .ensures,
-        at-first .glyph-at .ensures,
-        at-first .before .place-in .ensures,
         at-advances .glyph-advances .ensures .0,
         at-advances .glyph-advances .ensures .1,
-        at-advances .before .span-in .ensures,
+        at-font .font-in .ensures,
+        at-first .glyph-at .ensures,
+        at-first .before .place-in .ensures,
+        at-size .size-in .ensures,
         part-length (a .s .now) (a .rows .now) (a .end) (a .from) (omega arith),
       ),
       omega (arith, c .before .struct-known .given .1 .0 .fits),
@@ -70,11 +97,12 @@ pub form-glyph-clusters-spec : {M : Type 1} → statement M
 form-glyph-clusters-spec =
     tie.close
     (tie.spec
-    span-in-requires
-    glyph-advances-requires
+    size-in-requires
     place-in-requires
     glyph-at-requires
     font-in-requires
+    measure-units-requires
+    glyph-advances-requires
     ascent-requires
     descent-requires
     cast-t16

@@ -12,15 +12,15 @@ from-requires c κs = search needs
 u8-at-requires : tie.Need-u8-at-requires
 u8-at-requires c κs = search needs
 
-font-in-requires : tie.Need-font-in-requires
-font-in-requires c κs = search needs
+units-in-requires : tie.Need-units-in-requires
+units-in-requires c κs = search needs
 
 i32-at-requires : tie.Need-i32-at-requires
 i32-at-requires c κs = search needs
 
-measure-i32-requires : tie.Need-measure-i32-requires
+measure-units-requires : tie.Need-measure-units-requires
 unfolding glyphOf
-measure-i32-requires c κs =
+measure-units-requires c κs =
     rw (toZ-ofZ (record { sfits = c .i32-at .ok }), c .i32-at .ensures, c .before .before .before .from .ensures)
     (leb-true _ _ (c .before .before .before .before .before .pre))
 
@@ -28,10 +28,10 @@ returns : tie.Need-returns
 unfolding glyphOf
 returns c =
     rw (
-      c .measure-i32 .ensures,
+      c .measure-units .ensures,
       toZ-ofZ (record { sfits = c .before .i32-at .ok }),
       c .before .i32-at .ensures,
-      c .before .before .font-in .ensures,
+      c .before .before .units-in .ensures,
       c .before .before .before .u8-at .ensures,
       c .before .before .before .before .from .ensures,
     )
@@ -42,7 +42,7 @@ glyph-advance-spec =
     (tie.spec
     from-requires
     u8-at-requires
-    font-in-requires
+    units-in-requires
     i32-at-requires
-    measure-i32-requires
+    measure-units-requires
     returns)

@@ -1,6 +1,11 @@
 -- `job::check::places` meets its contract. Assumes nothing.
+use Prim.Native.Nat.{_+_, _*_}
+use Rattle.labels.specs.Decode.{fontCount, dxAt, dyAt, rotateAt, chunksAt}
+use Rattle.labels.specs.Check.{afterVersion}
 use Rattle.job.specs.Answer.{placesOf}
-use mathlib.Core.Path.{refl}
+use Rattle.job.proofs.Places.{next-place}
+use mathlib.Core.Path.{_≡_, refl}
+use native.Mathlib.Omega.{arith}
 use borrow.Author.Needs.{needs}
 use Rattle.job.proofs.check.places.Statement.{statement}
 use Rattle.job.proofs.check.places.Tie as tie
@@ -8,63 +13,85 @@ use Rattle.job.proofs.check.places.Tie as tie
 from-requires : tie.Need-from-requires
 from-requires c κs = search needs
 
-u8-at-requires : tie.Need-u8-at-requires
-u8-at-requires c κs = search needs
-
 font-count-requires : tie.Need-font-count-requires
 font-count-requires c κs = search needs
 
-dx-at-requires : tie.Need-dx-at-requires
-dx-at-requires c κs = search needs
+add-dx : tie.Need-add-dx
+add-dx c = search needs
 
-add-t6 : tie.Need-add-t6
-add-t6 c = search needs
+mul-dx : tie.Need-mul-dx
+mul-dx c = search needs
 
-dy-at-requires : tie.Need-dy-at-requires
-dy-at-requires c κs = search needs
+add-dx-2 : tie.Need-add-dx-2
+add-dx-2 c = search needs
 
-add-t8 : tie.Need-add-t8
-add-t8 c = search needs
+from-requires-2 : tie.Need-from-requires-2
+from-requires-2 c κs = search needs
 
-rotate-at-requires : tie.Need-rotate-at-requires
-rotate-at-requires c κs = search needs
+list-size-requires : tie.Need-list-size-requires
+list-size-requires c κs = search needs
 
-add-t10 : tie.Need-add-t10
-add-t10 c = search needs
+add-dy : tie.Need-add-dy
+add-dy c = search needs
 
-chunks-at-requires : tie.Need-chunks-at-requires
-chunks-at-requires c κs = search needs
+from-requires-3 : tie.Need-from-requires-3
+from-requires-3 c κs = search needs
 
-add-t12 : tie.Need-add-t12
-add-t12 c = search needs
+list-size-requires-2 : tie.Need-list-size-requires-2
+list-size-requires-2 c κs = search needs
+
+add-rotate : tie.Need-add-rotate
+add-rotate c = search needs
+
+from-requires-4 : tie.Need-from-requires-4
+from-requires-4 c κs = search needs
+
+list-size-requires-3 : tie.Need-list-size-requires-3
+list-size-requires-3 c κs = search needs
+
+add-chunks : tie.Need-add-chunks
+add-chunks c = search needs
+
+u8-at-requires : tie.Need-u8-at-requires
+u8-at-requires c κs = search needs
 
 returns : tie.Need-returns
-unfolding placesOf
+unfolding placesOf dxAt dyAt rotateAt chunksAt
 returns c =
-    rw (
-      c .before .before .before .before .before .u8-at .ensures,
-      c .before .before .before .before .font-count .ensures .0,
-      c .before .before .before .dx-at .ensures .0,
-      c .before .before .dy-at .ensures .0,
-      c .before .rotate-at .ensures .0,
-      c .chunks-at .ensures .0,
-      c .before .before .before .before .before .before .from .ensures,
-    )
-    refl
+    let s = c .before .before .before .before .before .before .before .before .before .before .args .bytes .now in
+    let rest = c .before .before .before .before .before .before .before .before .from in
+    let fonts = c .before .before .before .before .before .before .before .font-count in
+    let list = c .before .before .before .before .before .before .from2 in
+    let k = c .before .before .before .before .before .list-size in
+    let list2 = c .before .before .before .before .from3 in
+    let k2 = c .before .before .before .list-size2 in
+    let list3 = c .before .before .from4 in
+    let k3 = c .before .list-size3 in
+    let fonts-is : fonts .result ≡ fontCount (afterVersion s) = rw (fonts .ensures .0, rest .ensures) refl in
+    let dx = 7 + fonts .result * 18 in
+    let dx-is : dx ≡ 5 + dxAt (afterVersion s) = omega arith in
+    let dy-is : dx + k .result ≡ 5 + dyAt (afterVersion s) = next-place s dx (k .result) _ (list .result .now) dx-is (list .ensures) (k .ensures .0) in
+    let rotate-is : dx + k .result + k2 .result ≡ 5 + rotateAt (afterVersion s) = next-place s _ (k2 .result) _ (list2 .result .now) dy-is (list2 .ensures) (k2 .ensures .0) in
+    let chunks-is : dx + k .result + k2 .result + k3 .result ≡ 5 + chunksAt (afterVersion s) = next-place s _ (k3 .result) _ (list3 .result .now) rotate-is (list3 .ensures) (k3 .ensures .0) in
+    rw (chunks-is, rotate-is, dy-is, dx-is, fonts-is, c .u8-at .ensures, rest .ensures) refl
 
 pub places-spec : {M : Type 1} → statement M
 places-spec =
     tie.close
     (tie.spec
     from-requires
-    u8-at-requires
     font-count-requires
-    dx-at-requires
-    add-t6
-    dy-at-requires
-    add-t8
-    rotate-at-requires
-    add-t10
-    chunks-at-requires
-    add-t12
+    add-dx
+    mul-dx
+    add-dx-2
+    from-requires-2
+    list-size-requires
+    add-dy
+    from-requires-3
+    list-size-requires-2
+    add-rotate
+    from-requires-4
+    list-size-requires-3
+    add-chunks
+    u8-at-requires
     returns)

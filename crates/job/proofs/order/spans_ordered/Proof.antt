@@ -5,7 +5,7 @@ use lib.ListN.{drop}
 use Rattle.labels.specs.Bytes.{rows}
 use Rattle.labels.specs.Decode.{spanSize, spanOf}
 use Rattle.labels.specs.Check.{ordered}
-use Rattle.job.proofs.Orders.{inOrder, ordered-stop, ordered-on, ordered-done}
+use Rattle.job.proofs.Orders.{inOrder, ordered-stop, ordered-on, ordered-last, ordered-done}
 use borrow.Author.Needs.{needs}
 use native.Mathlib.Omega.{arith}
 use Rattle.job.proofs.order.spans_ordered.Statement.{statement}
@@ -47,27 +47,41 @@ returns c =
     (not-true (inOrder (a .length) (l .previous) (start .result) (end .result)) (c .if1 .taken)))
     ∙ l .inv
 
+sub-left : tie.Need-sub-left Inv-loop μ-loop
+sub-left c = search needs
+
 span-size-requires : tie.Need-span-size-requires Inv-loop μ-loop
 span-size-requires c κs = search needs
 
 after-requires : tie.Need-after-requires Inv-loop μ-loop
 after-requires c κs = search needs
 
-sub-left : tie.Need-sub-left Inv-loop μ-loop
-sub-left c = search needs
-
 loop-less : tie.Need-loop-less Inv-loop μ-loop
 loop-less c = search needs
 
 loop-again : tie.Need-loop-again Inv-loop μ-loop
 loop-again c =
-    let a = c .before .before .before .before .before .before .before .before .before .args in
-    let l = c .before .before .before .before .before .before .before .loop in
-    let start = c .before .before .before .before .u16-at in
-    let end = c .before .before .before .u16-at2 in
-    let span = c .before .before .before .before .before .from in
+    let a = c .before .before .before .before .before .before .before .before .before .before .args in
+    let l = c .before .before .before .before .before .before .before .before .loop in
+    let start = c .before .before .before .before .before .u16-at in
+    let end = c .before .before .before .before .u16-at2 in
+    let span = c .before .before .before .before .before .before .from in
     ordered-on (a .length) (l .previous) (start .result) (end .result) (l .left) (l .p) (a .spans .now) (span .result .now) (span .ensures) (start .ensures) (end .ensures) (omega arith)
-    (not-false (inOrder (a .length) (l .previous) (start .result) (end .result)) (c .before .before .if1 .left)) (c .before .span-size .result) (c .after .result) (c .before .span-size .ensures .0) (c .after .ensures .0)
+    (not-false (inOrder (a .length) (l .previous) (start .result) (end .result)) (c .before .before .before .if1 .left)) (c .before .span-size .result) (c .after .result) (c .before .span-size .ensures .0) (c .after .ensures .0)
+    ∙ l .inv
+
+loop-less-2 : tie.Need-loop-less-2 Inv-loop μ-loop
+loop-less-2 c = search needs
+
+loop-again-2 : tie.Need-loop-again-2 Inv-loop μ-loop
+loop-again-2 c =
+    let a = c .before .before .before .before .before .before .before .before .args in
+    let l = c .before .before .before .before .before .before .loop in
+    let start = c .before .before .before .u16-at in
+    let end = c .before .before .u16-at2 in
+    let span = c .before .before .before .before .from in
+    ordered-last (a .length) (l .previous) (start .result) (end .result) (l .left) (l .p) (a .spans .now) (span .result .now) (span .ensures) (start .ensures) (end .ensures) (omega arith)
+    (not-false (inOrder (a .length) (l .previous) (start .result) (end .result)) (c .before .if1 .left)) (c .if2 .left)
     ∙ l .inv
 
 returns-2 : tie.Need-returns-2 Inv-loop μ-loop
@@ -89,9 +103,11 @@ spans-ordered-spec =
     u16-at-requires-2
     cast-end
     returns
+    sub-left
     span-size-requires
     after-requires
-    sub-left
     loop-less
     loop-again
+    loop-less-2
+    loop-again-2
     returns-2)

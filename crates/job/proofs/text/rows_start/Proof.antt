@@ -6,6 +6,7 @@ use mathlib.Core.Path.{_≡_, refl, sym, ap, _∙_}
 use lib.ListN.{drop}
 use Rattle.labels.specs.Bytes.{each}
 use Rattle.labels.specs.Decode.{glyphBytes, glyphOf}
+use Rattle.labels.specs.Utf8.{startsAt}
 use Rattle.job.specs.Walk.{indexOk}
 use Rattle.parts.proofs.Walks.{all-each, each-on, each-stop, each-done}
 use borrow.Author.Needs.{needs}
@@ -23,8 +24,8 @@ abbrev μ-loop : tie.MeasureT-loop
 loop-holds : tie.Need-loop-holds Inv-loop μ-loop
 loop-holds c = refl
 
-glyph-at-requires : tie.Need-glyph-at-requires Inv-loop μ-loop
-glyph-at-requires c κs = search needs
+glyph-index-at-requires : tie.Need-glyph-index-at-requires Inv-loop μ-loop
+glyph-index-at-requires c κs = search needs
 
 cast-starts-at : tie.Need-cast-starts-at Inv-loop μ-loop
 cast-starts-at c = search needs
@@ -34,11 +35,11 @@ starts-at-requires c κs = search needs
 
 returns : tie.Need-returns Inv-loop μ-loop
 returns c =
-    let a = c .before .before .before .before .before .before .before .before .args in
-    let l = c .before .before .before .before .before .loop in
+    let a = c .before .before .before .before .before .before .before .args in
+    let l = c .before .before .before .before .loop in
     let ok : List ℕ → Bool = λ b. indexOk (a .text .now) (glyphOf b) in
     let t = c .before .starts-at in
-    let t-is = t .ensures ∙ ap (indexOk (a .text .now)) (c .before .before .before .glyph-at .ensures) in
+    let t-is = t .ensures ∙ ap (startsAt (a .text .now)) (c .before .before .glyph-index-at .ensures) in
     sym (each-stop (λ b. glyphBytes) (a .glyphs .now) (drop (l .p) (a .glyphs .now)) (l .p) (l .left) refl (omega arith) ok (t .result) t-is (c .if1 .taken))
     ∙ l .inv ∙ sym (all-each (λ b. glyphBytes) glyphOf (indexOk (a .text .now)) (a .n) (a .glyphs .now))
 
@@ -53,11 +54,11 @@ loop-less c = search needs
 
 loop-again : tie.Need-loop-again Inv-loop μ-loop
 loop-again c =
-    let a = c .before .before .before .before .before .before .before .before .before .args in
-    let l = c .before .before .before .before .before .before .loop in
+    let a = c .before .before .before .before .before .before .before .before .args in
+    let l = c .before .before .before .before .before .loop in
     let ok : List ℕ → Bool = λ b. indexOk (a .text .now) (glyphOf b) in
     let t = c .before .before .starts-at in
-    let t-is = t .ensures ∙ ap (indexOk (a .text .now)) (c .before .before .before .before .glyph-at .ensures) in
+    let t-is = t .ensures ∙ ap (startsAt (a .text .now)) (c .before .before .before .glyph-index-at .ensures) in
     each-on (λ b. glyphBytes) (a .glyphs .now) (drop (l .p) (a .glyphs .now)) (l .p) (l .left) refl (omega arith) ok (t .result) t-is (c .before .if1 .left)
     glyphBytes (c .after .result) refl (c .after .ensures .0)
     ∙ l .inv
@@ -76,7 +77,7 @@ rows-start-spec =
     Inv-loop
     μ-loop
     loop-holds
-    glyph-at-requires
+    glyph-index-at-requires
     cast-starts-at
     starts-at-requires
     returns

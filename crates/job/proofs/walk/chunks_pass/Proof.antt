@@ -5,6 +5,7 @@ use Rattle.labels.specs.Bytes.{each}
 use Rattle.labels.specs.Decode.{chunkSize}
 use Rattle.job.specs.Walk.{chunkPasses}
 use Rattle.parts.proofs.Walks.{each-on, each-stop, each-done}
+use Rattle.job.proofs.Last.{each-last}
 use borrow.Author.Needs.{needs}
 use native.Mathlib.Omega.{arith}
 use Rattle.job.proofs.walk.chunks_pass.Statement.{statement}
@@ -34,27 +35,39 @@ returns c =
     sym (each-stop chunkSize (a .chunks .now) (row .result .now) (l .p) (l .left) (row .ensures) (omega arith) (chunkPasses (a .check) (a .fonts)) (t .result) (t .ensures) (c .if1 .taken))
     ∙ l .inv
 
+sub-left : tie.Need-sub-left Inv-loop μ-loop
+sub-left c = search needs
+
 chunk-size-requires : tie.Need-chunk-size-requires Inv-loop μ-loop
 chunk-size-requires c κs = search needs
 
 after-requires : tie.Need-after-requires Inv-loop μ-loop
 after-requires c κs = search needs
 
-sub-left : tie.Need-sub-left Inv-loop μ-loop
-sub-left c = search needs
-
 loop-less : tie.Need-loop-less Inv-loop μ-loop
 loop-less c = search needs
 
 loop-again : tie.Need-loop-again Inv-loop μ-loop
 loop-again c =
-    let a = c .before .before .before .before .before .before .before .before .args in
-    let l = c .before .before .before .before .before .before .loop in
-    let row = c .before .before .before .before .from in
-    let t = c .before .before .before .chunk-passes in
+    let a = c .before .before .before .before .before .before .before .before .before .args in
+    let l = c .before .before .before .before .before .before .before .loop in
+    let row = c .before .before .before .before .before .from in
+    let t = c .before .before .before .before .chunk-passes in
     let k = c .before .chunk-size in
-    each-on chunkSize (a .chunks .now) (row .result .now) (l .p) (l .left) (row .ensures) (omega arith) (chunkPasses (a .check) (a .fonts)) (t .result) (t .ensures) (c .before .before .if1 .left)
+    each-on chunkSize (a .chunks .now) (row .result .now) (l .p) (l .left) (row .ensures) (omega arith) (chunkPasses (a .check) (a .fonts)) (t .result) (t .ensures) (c .before .before .before .if1 .left)
     (k .result) (c .after .result) (k .ensures .0) (c .after .ensures .0)
+    ∙ l .inv
+
+loop-less-2 : tie.Need-loop-less-2 Inv-loop μ-loop
+loop-less-2 c = search needs
+
+loop-again-2 : tie.Need-loop-again-2 Inv-loop μ-loop
+loop-again-2 c =
+    let a = c .before .before .before .before .before .before .before .args in
+    let l = c .before .before .before .before .before .loop in
+    let row = c .before .before .before .from in
+    let t = c .before .before .chunk-passes in
+    each-last chunkSize (a .chunks .now) (row .result .now) (l .p) (l .left) (row .ensures) (omega arith) (chunkPasses (a .check) (a .fonts)) (t .result) (t .ensures) (c .before .if1 .left) (c .if2 .left)
     ∙ l .inv
 
 returns-2 : tie.Need-returns-2 Inv-loop μ-loop
@@ -73,9 +86,11 @@ chunks-pass-spec =
     from-requires
     chunk-passes-requires
     returns
+    sub-left
     chunk-size-requires
     after-requires
-    sub-left
     loop-less
     loop-again
+    loop-less-2
+    loop-again-2
     returns-2)

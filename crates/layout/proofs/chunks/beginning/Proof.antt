@@ -2,7 +2,7 @@
 use mathlib.Core.Path.{refl}
 use mathlib.Core.List.{flatMap}
 use lib.Ieee.{ofBits}
-use Rattle.layout.specs.Steps.{reachedFrom, laidBytes}
+use Rattle.laid_chunk.specs.Steps.{reachedFrom, laidBytes}
 use Rattle.layout.proofs.chunks.beginning.Statement.{statement}
 use Rattle.layout.proofs.chunks.beginning.Tie as tie
 

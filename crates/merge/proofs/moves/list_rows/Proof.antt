@@ -2,7 +2,7 @@
 use borrow.Author.Needs.{needs}
 use native.Mathlib.Omega.{arith}
 use Prim.Native.Nat.{ℕ, _+_, _*_, _≤_, _-_}
-use mathlib.Core.Path.{_≡_, sym, _∙_}
+use mathlib.Core.Path.{_≡_, refl, sym, _∙_}
 use mathlib.Core.List.{List}
 use lib.ListN.{length, drop, length-set}
 use Rattle.labels.specs.Bytes.{rows as records}
@@ -13,20 +13,20 @@ use Rattle.merge.proofs.moves.list_rows.Tie as tie
 
 abbrev Inv-loop : tie.InvT-loop
 Inv-loop rows₀ first n row₀ i₀ rows row i =
-    (length rows ≡ 1024) × (i ≤ n) × (row ≡ first + i * 25)
+    (length rows ≡ length rows₀) × (i ≤ n) × (row ≡ first + i * 25)
     × ((s : List ℕ) → listed s rows n i row ≡ records (λ r. glyphBytes) glyphOf n (drop first s))
 
 abbrev μ-loop : tie.MeasureT-loop
 μ-loop rows₀ first n row₀ i₀ rows row i = n - i
 
 loop-holds : tie.Need-loop-holds Inv-loop μ-loop
-loop-holds c = (c .pre .0, omega arith, omega arith, λ s. listed-start s (c .args .rows .now) (c .args .n) (c .args .first))
+loop-holds c = (refl, omega arith, omega arith, λ s. listed-start s (c .args .rows .now) (c .args .n) (c .args .first))
 
 mul-rows : tie.Need-mul-rows Inv-loop μ-loop
 mul-rows c = search needs
 
-element-write-rows : tie.Need-element-write-rows Inv-loop μ-loop
-element-write-rows c = search needs
+slice-write-rows : tie.Need-slice-write-rows Inv-loop μ-loop
+slice-write-rows c = search needs
 
 add-row : tie.Need-add-row Inv-loop μ-loop
 add-row c = search needs
@@ -47,6 +47,9 @@ loop-again c =
       λ s. listed-step s (l .rows) (a .n) (l .i) (l .row) (omega arith) (omega arith) ∙ l .inv .3 s,
     )
 
+same-length : tie.Need-same-length Inv-loop μ-loop
+same-length c = search needs
+
 returns : tie.Need-returns Inv-loop μ-loop
 returns c =
     let a = c .before .before .args in
@@ -62,9 +65,10 @@ list-rows-spec =
     μ-loop
     loop-holds
     mul-rows
-    element-write-rows
+    slice-write-rows
     add-row
     add-i
     loop-less
     loop-again
+    same-length
     returns)

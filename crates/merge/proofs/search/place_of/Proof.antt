@@ -1,24 +1,25 @@
+-- `merge::search::place_of` meets its contract. The loop's invariant: the search that has passed i rows ends where one from the start does. Assumes nothing.
 use borrow.Author.Needs.{needs}
 use native.Mathlib.Omega.{arith}
-use Prim.Native.Nat.{_≤_, _-_}
+use Prim.Native.Nat.{_-_}
 use mathlib.Core.Path.{_≡_, sym, _∙_}
 use Rattle.labels.specs.Merge.{placeOf}
 use Rattle.merge.specs.Merged.{glyphsIn}
-use Rattle.merge.proofs.Found.{placeFrom, place-start, place-here, place-on, place-end}
+use Rattle.merge.proofs.Found.{placeFrom, place-from, place-here, place-on, place-end}
 use Rattle.merge.proofs.search.place_of.Statement.{statement}
 use Rattle.merge.proofs.search.place_of.Tie as tie
 
 abbrev Inv-loop : tie.InvT-loop
-Inv-loop s rows count index i₀ i =
-    (i ≤ count) × (placeFrom s rows count index i ≡ placeOf index (glyphsIn s rows count))
+Inv-loop s rows count index from i₀ i = placeFrom s rows count index i ≡ placeOf index (glyphsIn s rows count)
 
 abbrev μ-loop : tie.MeasureT-loop
-μ-loop s rows count index i₀ i = count - i
+μ-loop s rows count index from i₀ i = count - i
 
 loop-holds : tie.Need-loop-holds Inv-loop μ-loop
 loop-holds c =
-    let a = c .before .before .args in
-    (omega arith, place-start (a .s .now) (a .rows .now) (a .count) (a .index))
+    let start = c .before .before in
+    let a = start .args in
+    place-from (a .s .now) (a .rows .now) (a .count) (a .index) (a .from) (start .pre .1)
 
 mul-index-at : tie.Need-mul-index-at Inv-loop μ-loop
 mul-index-at c = search needs
@@ -35,7 +36,7 @@ returns c =
     let loop = read .before .before .before in
     let a = loop .before .before .before .args in
     let l = loop .loop in
-    sym (place-here (a .s .now) (a .rows .now) (a .count) (a .index) (l .i) (omega arith) (omega arith) (sym (read .index-at .ensures) ∙ c .if1 .taken)) ∙ l .inv .1
+    sym (place-here (a .s .now) (a .rows .now) (a .count) (a .index) (l .i) (omega arith) (omega arith) (sym (read .index-at .ensures) ∙ c .if1 .taken)) ∙ l .inv
 
 add-i : tie.Need-add-i Inv-loop μ-loop
 add-i c = search needs
@@ -48,16 +49,14 @@ loop-again c =
     let read = c .before in
     let loop = read .before .before .before in
     let a = loop .before .before .before .args in
-    let l = loop .loop in (
-      omega arith,
-      place-on (a .s .now) (a .rows .now) (a .count) (a .index) (l .i) (omega arith) (omega arith) (λ e. c .if1 .left (read .index-at .ensures ∙ e)) ∙ l .inv .1,
-    )
+    let l = loop .loop in
+    place-on (a .s .now) (a .rows .now) (a .count) (a .index) (l .i) (omega arith) (omega arith) (λ e. c .if1 .left (read .index-at .ensures ∙ e)) ∙ l .inv
 
 returns-2 : tie.Need-returns-2 Inv-loop μ-loop
 returns-2 c =
     let a = c .before .before .before .before .args in
     let l = c .before .loop in
-    sym (place-end (a .s .now) (a .rows .now) (a .count) (a .index) (l .i) (omega arith)) ∙ l .inv .1
+    sym (place-end (a .s .now) (a .rows .now) (a .count) (a .index) (l .i) (omega arith)) ∙ l .inv
 
 pub place-of-spec : {M : Type 1} → statement M
 place-of-spec =

@@ -15,12 +15,12 @@ span-contains-requires c κs = search needs
 
 insert-next-requires : tie.Need-insert-next-requires
 insert-next-requires c κs =
-    let start = c .before .before .before .before .before .before in
+    let start = c .before .before .before .before .before .before .before in
     (start .pre .0, start .pre .3, start .pre .2, c .before .if1 .taken)
 
 returns : tie.Need-returns
 returns c =
-    let start = c .before .before .before .before .before .before .before in
+    let start = c .before .before .before .before .before .before .before .before in
     let a = start .args in
     let s = a .s .now in (
       c .insert-next .ensures .0,
@@ -40,7 +40,7 @@ returns-2 : tie.Need-returns-2
 returns-2 c =
     let covered = c .before .before .before .before .span-contains in
     let index = c .before .before .before .before .before .index-at in
-    let start = c .before .before .before .before .before .before .before in
+    let start = c .before .before .before .before .before .before .before .before in
     let a = start .args in
     let s = a .s .now in (
       start .pre .0,
@@ -64,7 +64,7 @@ replace-first-requires c κs = search needs
 returns-3 : tie.Need-returns-3
 returns-3 c =
     let covered = c .before .before .before .before .before .before .span-contains in
-    let start = c .before .before .before .before .before .before .before .before .before in
+    let start = c .before .before .before .before .before .before .before .before .before .before in
     let a = start .args in
     let s = a .s .now in
     let did = c .replace-first .ensures in (

@@ -10,8 +10,13 @@ use borrow.Author.Needs.{needs}
 use Rattle.merge.proofs.step.replace_first.Statement.{statement}
 use Rattle.merge.proofs.step.replace_first.Tie as tie
 
+first-of-requires : tie.Need-first-of-requires
+first-of-requires c κs = search needs
+
 place-of-requires : tie.Need-place-of-requires
-place-of-requires c κs = search needs
+place-of-requires c κs =
+    let start = c .before .before .before .before .before in
+    (omega arith, omega (arith, c .first-of .ensures, start .pre .4 (start .args .index)))
 
 skip-requires : tie.Need-skip-requires
 skip-requires c κs = search needs
@@ -19,7 +24,7 @@ skip-requires c κs = search needs
 returns : tie.Need-returns
 returns c =
     let place = c .before .before .place-of in
-    let start = c .before .before .before .before .before .before in
+    let start = c .before .before .before .before .before .before .before .before in
     let a = start .args in
     let s = a .s .now in (
       start .pre .0,
@@ -43,7 +48,7 @@ skip-requires-2 c κs = search needs
 returns-2 : tie.Need-returns-2
 returns-2 c =
     let place = c .before .before .before .before .place-of in
-    let start = c .before .before .before .before .before .before .before .before in
+    let start = c .before .before .before .before .before .before .before .before .before .before in
     let a = start .args in
     let s = a .s .now in (
       start .pre .0,
@@ -68,7 +73,7 @@ replace-requires c κs = search needs
 returns-3 : tie.Need-returns-3
 returns-3 c =
     let place = c .before .before .before .before .before .place-of in
-    let start = c .before .before .before .before .before .before .before .before .before in
+    let start = c .before .before .before .before .before .before .before .before .before .before .before in
     let a = start .args in
     let s = a .s .now in (
       c .replace .ensures .0,
@@ -88,6 +93,7 @@ pub replace-first-spec : {M : Type 1} → statement M
 replace-first-spec =
     tie.close
     (tie.spec
+    first-of-requires
     place-of-requires
     skip-requires
     returns

@@ -1,9 +1,9 @@
 -- `wire::read::i32_at` meets its contract. Assumes nothing.
-use Prim.Native.Nat.{_-_}
+use mathlib.Core.Path.{_∙_}
 use lib.ListN.{drop}
 use mir.Syntax.{w32}
-use Rattle.wire.proofs.Signed.{less-fits, signed-low, signed-high}
-use native.Mathlib.Omega.{arith}
+use mir.Facts.{toZ-ofZ}
+use Rattle.wire.proofs.Signed.{signed-of}
 use borrow.Author.Needs.{needs}
 use Rattle.wire.proofs.read.i32_at.Statement.{statement}
 use Rattle.wire.proofs.read.i32_at.Tie as tie
@@ -11,31 +11,14 @@ use Rattle.wire.proofs.read.i32_at.Tie as tie
 u32-at-requires : tie.Need-u32-at-requires
 u32-at-requires c κs = search needs
 
-cast-result : tie.Need-cast-result
-cast-result c = search needs
+i32-of-requires : tie.Need-i32-of-requires
+i32-of-requires c κs = search needs
 
 returns : tie.Need-returns
 returns c =
     let a = c .before .before .before .args in
     let n = c .before .u32-at in
-    signed-low w32 4 (drop (a .at) (a .s .now)) (n .result) (n .ensures) (omega arith) (omega arith)
-
-sub-result : tie.Need-sub-result
-sub-result c = search needs
-
-cast-result-2 : tie.Need-cast-result-2
-cast-result-2 c = search needs
-
-sub-result-2 : tie.Need-sub-result-2
-sub-result-2 c = less-fits w32 (4294967295 - c .before .u32-at .result) (omega arith)
-
-returns-2 : tie.Need-returns-2
-returns-2 c =
-    let a = c .before .before .before .args in
-    let n = c .before .u32-at in
-    signed-high w32 4 (drop (a .at) (a .s .now)) (n .result) (n .ensures) (4294967295 - n .result) (omega arith) (omega arith) (omega arith)
+    toZ-ofZ {w = w32} (record { sfits = c .i32-of .ok }) ∙ c .i32-of .ensures ∙ signed-of 4 (drop (a .at) (a .s .now)) (n .result) (n .ensures)
 
 pub i32-at-spec : {M : Type 1} → statement M
-i32-at-spec =
-    tie.close
-    (tie.spec u32-at-requires cast-result returns sub-result cast-result-2 sub-result-2 returns-2)
+i32-at-spec = tie.close (tie.spec u32-at-requires i32-of-requires returns)

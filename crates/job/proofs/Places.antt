@@ -1,0 +1,29 @@
+-- The places of a job in its record: what stands there is what the definitions find in the bytes after the version. Assumes nothing.
+use Prim.Native.Nat.{ℕ, _+_}
+use mathlib.Core.Path.{_≡_, sym}
+use mathlib.Core.List.{List}
+use native.Mathlib.Omega.{arith}
+use lib.ListN.{drop}
+use lib.Seq.{drop-drop}
+use Rattle.labels.specs.declared.Job.{Job}
+use Rattle.labels.specs.Bytes.{be}
+use Rattle.labels.specs.Decode.{listSize, chunksAt, chunkCount, chunkBytes}
+use Rattle.labels.specs.Check.{afterVersion}
+use Rattle.job.specs.Answer.{placesOf}
+
+module _ (s : List ℕ) where
+  pub behind-version : (n : ℕ) → drop (5 + n) s ≡ drop n (afterVersion s)
+  behind-version n = sym (drop-drop n 5 s)
+
+  -- a list stands at p, and the next place is behind its k bytes
+  pub next-place : (p k n : ℕ) (list : List ℕ) → p ≡ 5 + n → list ≡ drop p s → k ≡ listSize list → p + k ≡ 5 + (n + listSize (drop n (afterVersion s)))
+  next-place p k n list p-is list-is k-is = rw (k-is, list-is, p-is, behind-version n) (omega arith)
+
+  -- at a record's chunk count: the bytes from the first chunk on, and the count
+  pub chunks-read : (job : Job) (counted chunks : List ℕ) (n : ℕ) → job ≡ placesOf s → counted ≡ drop (job .chunks) s → chunks ≡ drop 1 counted → n ≡ be 1 counted
+      → (chunks ≡ chunkBytes (afterVersion s)) × (n ≡ chunkCount (afterVersion s))
+  unfolding placesOf chunkBytes chunkCount
+  chunks-read job counted chunks n job-is counted-is chunks-is n-is =
+      let at = chunksAt (afterVersion s) in
+      let here : counted ≡ drop at (afterVersion s) = rw (counted-is, job-is, behind-version at) in
+      (rw (chunks-is, here, drop-drop 1 at (afterVersion s)), rw (n-is, here))

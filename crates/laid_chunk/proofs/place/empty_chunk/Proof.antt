@@ -1,0 +1,62 @@
+-- `laid_chunk::place::empty_chunk` meets its contract. Assumes nothing.
+use mathlib.Core.Path.{ap, _∙_}
+use native.Mathlib.Omega.{arith}
+use Rattle.labels.specs.Utf8.{characters}
+use Rattle.laid_chunk.proofs.Placed.{without-spans, few-characters, empty-behind}
+use borrow.Author.Needs.{needs}
+use Rattle.laid_chunk.proofs.place.empty_chunk.Statement.{statement}
+use Rattle.laid_chunk.proofs.place.empty_chunk.Tie as tie
+
+slice-aggregate-none : tie.Need-slice-aggregate-none
+slice-aggregate-none c = search needs
+
+write-chunk-requires : tie.Need-write-chunk-requires
+write-chunk-requires c κs =
+    let given = c .before .before .before .before .before .before .before .before .before .before .before .pre in
+    (without-spans (given .0), omega arith, omega arith, omega arith, omega arith, omega arith, given .2, given .1 .bytes)
+
+chunk-text-requires : tie.Need-chunk-text-requires
+chunk-text-requires c κs = search needs
+
+character-count-requires : tie.Need-character-count-requires
+character-count-requires c κs = search needs
+
+add-offset : tie.Need-add-offset
+add-offset c = search needs
+
+add-length : tie.Need-add-length
+add-length c = search needs
+
+same-length : tie.Need-same-length
+same-length c = search needs
+
+same-length-2 : tie.Need-same-length-2
+same-length-2 c = search needs
+
+same-length-3 : tie.Need-same-length-3
+same-length-3 c = search needs
+
+returns : tie.Need-returns
+returns c =
+    let start = c .before .before .before .before .before .before .before .before .before .before .before .before .before .before .before .before .before .before .before .before .before in
+    let written = c .before .before .before .before .before .before .before .before .before .write-chunk in
+    let counted = c .before .character-count in
+    let text = c .before .before .chunk-text .ensures in
+    empty-behind (start .args .s .now) (start .args .at) (start .args .room) (start .args .reached) _ _ _ (counted .result) (written .result)
+    (counted .ensures .0 ∙ ap characters text) (few-characters text (counted .ensures .1) (start .pre .1 .text)) (written .ensures .1)
+    (start .args .spans .now) (start .args .floats .now) (start .args .words .now) (written .ensures .0) (written .ensures .2)
+
+pub empty-chunk-spec : {M : Type 1} → statement M
+empty-chunk-spec =
+    tie.close
+    (tie.spec
+    slice-aggregate-none
+    write-chunk-requires
+    chunk-text-requires
+    character-count-requires
+    add-offset
+    add-length
+    same-length
+    same-length-2
+    same-length-3
+    returns)

@@ -1,0 +1,115 @@
+-- `layout::chunks::lay_chunks` meets its contract. Assumes nothing.
+use mathlib.Core.Path.{_≡_, refl, ap, _∙_}
+use native.Mathlib.Omega.{arith}
+use lib.ListN.{length}
+use Rattle.labels.specs.Decode.{chunkSize}
+use Rattle.layout.proofs.ChunksLeft.{Laying, begun-laying, chunk-checked, refused-laying, next-laying, laying-done}
+use borrow.Author.Needs.{needs}
+use Rattle.layout.proofs.chunks.lay_chunks.Statement.{statement}
+use Rattle.layout.proofs.chunks.lay_chunks.Tie as tie
+
+abbrev Inv-loop : tie.InvT-loop
+Inv-loop s job out₀ room reached₀ at₀ left₀ out reached at left = (length out ≡ length out₀) × Laying s job room out₀ out reached at left
+
+abbrev μ-loop : tie.MeasureT-loop
+μ-loop s job out₀ room reached₀ at₀ left₀ out reached at left = left
+
+beginning-requires : tie.Need-beginning-requires Inv-loop μ-loop
+beginning-requires c κs = search needs
+
+add-at : tie.Need-add-at Inv-loop μ-loop
+add-at c = search needs
+
+count-of-requires : tie.Need-count-of-requires Inv-loop μ-loop
+count-of-requires c κs = c .before .before .before .before .pre .0 .places
+
+loop-holds : tie.Need-loop-holds Inv-loop μ-loop
+loop-holds c =
+    let start = c .before .before .before .before .before in
+    let begins = c .before .before .beginning in
+    (refl, begun-laying (start .args .s .now) (start .args .job) (start .pre .0) _ (c .count-of .result) refl (c .count-of .ensures .0) (begins .result) (begins .ensures) (start .args .room) (start .args .out .now) (start .pre .1))
+
+layout-chunk-requires : tie.Need-layout-chunk-requires Inv-loop μ-loop
+layout-chunk-requires c κs =
+    let start = c .before .before .before .before .before .before .before .before in
+    let l = c .before .before .loop in
+    let k = chunk-checked (start .args .s .now) (start .args .job) (l .reached) (l .at) (l .left) (omega arith) (l .inv .1 .known) (start .pre .0) in
+    (k .0, k .1, l .inv .1 .held)
+
+enum-known-next : tie.Need-enum-known-next Inv-loop μ-loop
+enum-known-next c = search needs
+
+enum-known-number : tie.Need-enum-known-number Inv-loop μ-loop
+enum-known-number c = search needs
+
+same-length : tie.Need-same-length Inv-loop μ-loop
+same-length c = search needs
+
+returns : tie.Need-returns Inv-loop μ-loop
+returns c =
+    let a = c .before .before .before .before .before .before .before .before .before .before .before .before .before .before .args in
+    let l = c .before .before .before .before .before .before .before .before .loop in
+    let number = c .before .number .given in
+    let is = refused-laying (a .s .now) (a .job) (l .reached) (l .at) (l .left) (omega arith) (c .before .before .before .before .before .layout-chunk .ensures) (number .0 .0) (number .1) (l .inv .1) in
+    (is .0, tt, λ e. absurd (is .1 e))
+
+from-requires : tie.Need-from-requires Inv-loop μ-loop
+from-requires c κs = search needs
+
+chunk-size-requires : tie.Need-chunk-size-requires Inv-loop μ-loop
+chunk-size-requires c κs = search needs
+
+after-requires : tie.Need-after-requires Inv-loop μ-loop
+after-requires c κs = search needs
+
+sub-left : tie.Need-sub-left Inv-loop μ-loop
+sub-left c = search needs
+
+loop-less : tie.Need-loop-less Inv-loop μ-loop
+loop-less c = search needs
+
+loop-again : tie.Need-loop-again Inv-loop μ-loop
+loop-again c =
+    let a = c .before .before .before .before .before .before .before .before .before .before .before .before .before .before .before .before .before .args in
+    let l = c .before .before .before .before .before .before .before .before .before .before .before .loop in
+    let laid = c .before .before .before .before .before .before .before .before .layout-chunk in
+    let next = c .before .before .before .before .next .given in
+    let k = c .before .chunk-size in
+    let size-is = k .ensures .0 ∙ ap chunkSize (c .before .before .from .ensures) in (
+      search needs,
+      next-laying (a .s .now) (a .job) (l .reached) (l .at) (l .left) (omega arith) (laid .ensures) (next .0 .0) (next .1) (k .result) (c .after .result) size-is (c .after .ensures) (laid .kept .1 .1 .1 .1 .0) (l .inv .1),
+    )
+
+same-length-2 : tie.Need-same-length-2 Inv-loop μ-loop
+same-length-2 c = search needs
+
+returns-2 : tie.Need-returns-2 Inv-loop μ-loop
+returns-2 c =
+    let a = c .before .before .before .before .before .before .before .args in
+    let l = c .before .loop in
+    let is = laying-done (a .s .now) (a .job) (l .reached) (l .at) (l .left) (c .loop-test .left) (l .inv .1) in
+    (is .0, omega (arith, l .inv .1 .known .bytes), is .1)
+
+pub lay-chunks-spec : {M : Type 1} → statement M
+lay-chunks-spec =
+    tie.close
+    (tie.spec
+    Inv-loop
+    μ-loop
+    beginning-requires
+    add-at
+    count-of-requires
+    loop-holds
+    layout-chunk-requires
+    enum-known-next
+    enum-known-number
+    same-length
+    returns
+    from-requires
+    chunk-size-requires
+    after-requires
+    sub-left
+    loop-less
+    loop-again
+    same-length-2
+    returns-2)

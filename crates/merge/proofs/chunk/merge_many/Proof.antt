@@ -1,0 +1,31 @@
+-- `merge::chunk::merge_many` meets its contract. Assumes nothing.
+use borrow.Author.Needs.{needs}
+use Rattle.merge.proofs.chunk.merge_many.Statement.{statement}
+use Rattle.merge.proofs.chunk.merge_many.Tie as tie
+
+slice-aggregate-put-firsts : tie.Need-slice-aggregate-put-firsts
+slice-aggregate-put-firsts c = search needs
+
+put-firsts-requires : tie.Need-put-firsts-requires
+put-firsts-requires c κs = search needs
+
+slice-aggregate-merge-glyphs : tie.Need-slice-aggregate-merge-glyphs
+slice-aggregate-merge-glyphs c = search needs
+
+merge-glyphs-requires : tie.Need-merge-glyphs-requires
+merge-glyphs-requires c κs =
+    let start = c .before .before .before .before .before .before .before .before .before in
+    (start .pre .0, start .pre .1, start .pre .2, start .pre .3, start .pre .4, start .pre .5, c .before .before .before .before .put-firsts .ensures)
+
+returns : tie.Need-returns
+returns c = c .before .merge-glyphs .ensures
+
+pub merge-many-spec : {M : Type 1} → statement M
+merge-many-spec =
+    tie.close
+    (tie.spec
+    slice-aggregate-put-firsts
+    put-firsts-requires
+    slice-aggregate-merge-glyphs
+    merge-glyphs-requires
+    returns)
