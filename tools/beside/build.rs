@@ -14,8 +14,11 @@ fn main() {
         None => Path::new(&env::var_os("CARGO_MANIFEST_DIR").unwrap()).join(DEFAULT_ARCHIVE),
     };
     println!("cargo:rerun-if-changed={}", archive.display());
-    if archive.exists() {
+    if let Ok(archive) = archive.canonicalize() {
+        let folder = archive.parent().unwrap().display();
+        let name = archive.file_name().unwrap().to_str().unwrap();
         println!("cargo:rustc-cfg=library");
-        println!("cargo:rustc-link-arg={}", archive.display());
+        println!("cargo:rustc-link-search=native={folder}");
+        println!("cargo:rustc-link-lib=static:+verbatim={name}");
     }
 }

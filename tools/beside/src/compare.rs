@@ -16,8 +16,8 @@ pub struct Lender {
     memory: Vec<u8>,
 }
 
-impl Lender {
-    pub fn new() -> Self {
+impl Default for Lender {
+    fn default() -> Self {
         let size = MOST_LENT + 2 * GUARD;
         let pattern: Vec<u8> = (0..size).map(|i| (i * 151 + 43) as u8 | 1).collect();
         Lender {
@@ -25,7 +25,9 @@ impl Lender {
             pattern,
         }
     }
+}
 
+impl Lender {
     /// The first thing in which the library parts from the Rust.
     pub fn difference(&mut self, case: &Case) -> Option<String> {
         let job = case.job.clone();

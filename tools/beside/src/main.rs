@@ -1,31 +1,14 @@
 //! The library and the definitions beside the Rust's own layout. README.md says how to use it.
 
-mod cases;
-mod compare;
-mod damage;
-mod encode;
-mod exact;
-mod fields;
-mod generate;
-mod labels;
-mod library;
-mod limits;
-mod near;
-mod random;
-mod reach;
-mod shown;
-mod store;
-mod tables;
-mod tell;
-mod whole;
-
 use std::error::Error;
 use std::io::Write;
 use std::path::Path;
+use std::process::exit;
 use std::{env, fs};
 
-use cases::Case;
-use compare::{Lender, Tally};
+use beside::cases::{self, Case};
+use beside::compare::{Lender, Tally};
+use beside::{near, reach, store, tell};
 
 const USAGE: &str = "\
 beside run SEED COUNT       the library beside the Rust, on jobs of every kind
@@ -52,13 +35,16 @@ fn main() -> Done {
         ["replay", dir] => replay(Path::new(dir)),
         ["answer", file, lent] => answer_file(file, lent.parse()?),
         ["gen", seed, count, dir] => write_cases(seed.parse()?, count.parse()?, Path::new(dir)),
-        _ => Err(USAGE.into()),
+        _ => {
+            eprint!("{USAGE}");
+            exit(2)
+        }
     }
 }
 
 /// The library beside the outcomes that the Rust gave.
 fn run(cases: impl Iterator<Item = Case>) -> Done {
-    let mut lender = Lender::new();
+    let mut lender = Lender::default();
     let mut tally = Tally::default();
     for case in cases {
         let difference = lender.difference(&case);

@@ -1,6 +1,6 @@
 //! The answer's rows and their bytes.
 
-use crate::bytes::Writer;
+use crate::bytes::{Reader, Writer};
 
 pub const RELATIVE_SHIFT: u8 = 1;
 pub const UPRIGHT: u8 = 2;
@@ -37,6 +37,7 @@ pub struct GlyphRow {
     pub y: f32,
 }
 
+#[derive(Default)]
 pub struct SpanRow {
     pub index: u8,
     pub origin: (f32, f32),
@@ -100,5 +101,78 @@ fn span(to: &mut Writer, row: &SpanRow) {
     for run in &row.runs {
         to.u16(run.first);
         to.floats(&[run.width]);
+    }
+}
+
+/// The rows of an answer.
+pub fn rows(answer: &[u8]) -> Vec<ChunkRow> {
+    let mut from = Reader { rest: answer };
+    let length = from.u32();
+    assert_eq!(length as usize, from.rest.len(), "an answer's length");
+    assert_eq!(from.u8(), 1, "an answer's version");
+    let count = from.u8();
+    let rows = (0..count).map(|_| chunk_row(&mut from)).collect();
+    assert!(from.rest.is_empty(), "an answer ends with its rows");
+    rows
+}
+
+fn chunk_row(from: &mut Reader) -> ChunkRow {
+    let (clusters, spans) = (from.u16(), from.u8());
+    ChunkRow {
+        pen: from.pair(),
+        clusters: (0..clusters).map(|_| cluster_row(from)).collect(),
+        spans: (0..spans).map(|_| span_row(from)).collect(),
+    }
+}
+
+fn cluster_row(from: &mut Reader) -> ClusterRow {
+    let mut row = ClusterRow {
+        byte_index: from.u16(),
+        flags: from.u8(),
+        width: from.float(),
+        advance: from.float(),
+        length_spacing: from.float(),
+        ascent: from.float(),
+        descent: from.float(),
+        nudge: from.float(),
+        scale: from.float(),
+        shift: from.pair(),
+        angle: from.float(),
+        glyphs: vec![],
+    };
+    let glyphs = from.u16();
+    row.glyphs = (0..glyphs).map(|_| glyph_row(from)).collect();
+    row
+}
+
+fn glyph_row(from: &mut Reader) -> GlyphRow {
+    GlyphRow {
+        id: from.u32(),
+        font: from.u8(),
+        x: from.float(),
+        y: from.float(),
+    }
+}
+
+fn span_row(from: &mut Reader) -> SpanRow {
+    let mut row = SpanRow {
+        index: from.u8(),
+        origin: from.pair(),
+        baseline_shift: from.float(),
+        thickness: from.float(),
+        under: from.float(),
+        over: from.float(),
+        through: from.float(),
+        runs: vec![],
+    };
+    let runs = from.u16();
+    row.runs = (0..runs).map(|_| run(from)).collect();
+    row
+}
+
+fn run(from: &mut Reader) -> Run {
+    Run {
+        first: from.u16(),
+        width: from.float(),
     }
 }

@@ -1,4 +1,4 @@
-//! Big-endian numbers written one after the other, and bytes in hex.
+//! Big-endian numbers written and read one after the other, and bytes in hex.
 
 #[derive(Default)]
 pub struct Writer {
@@ -38,6 +38,39 @@ impl Writer {
     pub fn record(self) -> Vec<u8> {
         let length = self.bytes.len() as u32 + 1;
         [&length.to_be_bytes()[..], &[1], &self.bytes].concat()
+    }
+}
+
+/// Of a record that is whole; one that ends early is a fault.
+pub struct Reader<'a> {
+    pub rest: &'a [u8],
+}
+
+impl Reader<'_> {
+    pub fn array<const N: usize>(&mut self) -> [u8; N] {
+        let (taken, rest) = self.rest.split_first_chunk().expect("a whole record");
+        self.rest = rest;
+        *taken
+    }
+
+    pub fn u8(&mut self) -> u8 {
+        self.array::<1>()[0]
+    }
+
+    pub fn u16(&mut self) -> u16 {
+        u16::from_be_bytes(self.array())
+    }
+
+    pub fn u32(&mut self) -> u32 {
+        u32::from_be_bytes(self.array())
+    }
+
+    pub fn float(&mut self) -> f32 {
+        f32::from_bits(self.u32())
+    }
+
+    pub fn pair(&mut self) -> (f32, f32) {
+        (self.float(), self.float())
     }
 }
 

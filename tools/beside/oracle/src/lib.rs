@@ -9,3 +9,4 @@ pub mod job;
 pub mod label;
 pub mod refusal;
 pub mod rust;
+pub mod steps;

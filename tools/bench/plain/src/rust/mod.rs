@@ -11,7 +11,11 @@ mod convert;
 mod lookup;
 #[path = "../../../../beside/oracle/src/rust/merge.rs"]
 mod merge;
+#[path = "../../../../beside/oracle/src/rust/numbers.rs"]
+mod numbers;
 mod run;
+#[path = "../../../../beside/oracle/src/rust/shape.rs"]
+mod shape;
 #[path = "../../../../beside/oracle/src/rust/shims.rs"]
 mod shims;
 mod transform;
@@ -21,10 +25,9 @@ use std::num::NonZeroU16;
 use std::sync::Arc;
 
 use lookup::{unicode_script, unicode_vo};
-use shims::{
-    ApproxZeroUlps, Fill, Font, FontResolver, GlyphId, NonZeroPositiveF32, PaintOrder, Stroke,
-    Text, TextPath, ID,
-};
+use numbers::{ApproxZeroUlps, NonZeroPositiveF32};
+use shape::FontResolver;
+use shims::{Fill, Font, GlyphId, PaintOrder, Stroke, Text, TextPath, ID};
 use transform::Transform;
 use unicode_script::UnicodeScript;
 

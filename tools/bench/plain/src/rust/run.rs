@@ -18,7 +18,8 @@ pub fn answer(job: &Job) -> Result<Vec<u8>, Refusal> {
     let mut char_offset = 0;
     to.u8(text.chunks.len() as u8);
     for (chunk, source) in text.chunks.iter().zip(&job.chunks) {
-        let mut clusters = merge::clusters_of(chunk, &cache, &convert::resolver(source, &fonts))?;
+        let resolver = FontResolver::new(convert::shaped(source, &fonts));
+        let mut clusters = merge::clusters_of(chunk, &cache, &resolver)?;
         let origin = (chunk.x.unwrap_or(pen.0), chunk.y.unwrap_or(pen.1));
         if !clusters.is_empty() {
             let end = placed(&text, chunk, char_offset, &mut clusters)?;

@@ -1,7 +1,5 @@
 //! A checked job as the Rust's own types.
 
-use std::cell::RefCell;
-
 use super::*;
 use crate::job::{self, Job, NO_FONT};
 use shims::SpanNumber;
@@ -38,11 +36,10 @@ pub fn cache(text: &Text, fonts: &[Arc<ResolvedFont>]) -> FontsCache {
         .collect()
 }
 
-pub fn resolver(chunk: &job::Chunk, fonts: &[Arc<ResolvedFont>]) -> FontResolver {
+/// The glyphs of each span of the chunk.
+pub fn shaped(chunk: &job::Chunk, fonts: &[Arc<ResolvedFont>]) -> Vec<Vec<Glyph>> {
     let shaped = |span: &job::Span| span.glyphs.iter().map(|g| glyph(g, fonts)).collect();
-    FontResolver {
-        shaped: RefCell::new(chunk.spans.iter().map(shaped).collect()),
-    }
+    chunk.spans.iter().map(shaped).collect()
 }
 
 fn font(byte: u8, row: &job::FontRow) -> ResolvedFont {
@@ -107,7 +104,7 @@ fn span(number: usize, span: &job::Span) -> TextSpan {
             byte: span.font,
             variations: SpanNumber(number),
         },
-        font_size: NonZeroPositiveF32(f32::from_bits(span.size)),
+        font_size: NonZeroPositiveF32::new(f32::from_bits(span.size)).expect("check 4 held"),
         small_caps: false,
         apply_kerning: true,
         font_optical_sizing: FontOpticalSizing::Auto,

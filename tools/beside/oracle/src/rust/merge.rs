@@ -5,7 +5,7 @@ use std::panic::{catch_unwind, resume_unwind, AssertUnwindSafe};
 use std::sync::Arc;
 
 use super::bounded::Vec;
-use super::shims::{fontdb, shape_text, FontResolver};
+use super::shape::{fontdb, shape_text, FontResolver};
 use super::{
     chunk_span_at, form_glyph_clusters, span_contains, FontsCache, GlyphCluster, GlyphClusters,
     TextChunk,

@@ -7,7 +7,9 @@ mod bounded;
 mod convert;
 mod lookup;
 mod merge;
+mod numbers;
 mod run;
+mod shape;
 mod shims;
 mod transform;
 
@@ -16,10 +18,9 @@ use std::num::NonZeroU16;
 use std::sync::Arc;
 
 use lookup::{unicode_script, unicode_vo};
-use shims::{
-    ApproxZeroUlps, Fill, Font, FontResolver, GlyphId, NonZeroPositiveF32, PaintOrder, Stroke,
-    Text, TextPath, ID,
-};
+use numbers::{ApproxZeroUlps, NonZeroPositiveF32};
+use shape::FontResolver;
+use shims::{Fill, Font, GlyphId, PaintOrder, Stroke, Text, TextPath, ID};
 use transform::Transform;
 use unicode_script::UnicodeScript;
 

@@ -1,10 +1,10 @@
 //! The chunk loop of `layout_text`, without its font lookup and bounding boxes, and check 9.
 
-use super::transform::Step;
 use super::*;
 use crate::answer::{self, ChunkRow, ClusterRow, GlyphRow, Run, SpanRow};
 use crate::job::Job;
 use crate::refusal::{unless, Refusal};
+use crate::steps::{self, Step};
 
 pub fn rows(job: &Job) -> Result<Vec<ChunkRow>, Refusal> {
     let text = convert::text(job);
@@ -14,7 +14,8 @@ pub fn rows(job: &Job) -> Result<Vec<ChunkRow>, Refusal> {
     let mut char_offset = 0;
     let mut rows = vec![];
     for (chunk, source) in text.chunks.iter().zip(&job.chunks) {
-        let clusters = merge::clusters_of(chunk, &cache, &convert::resolver(source, &fonts))?;
+        let resolver = FontResolver::new(convert::shaped(source, &fonts));
+        let clusters = merge::clusters_of(chunk, &cache, &resolver)?;
         let row = if clusters.is_empty() {
             ChunkRow {
                 pen,
@@ -176,7 +177,7 @@ fn read_transform(row: &mut ClusterRow, steps: &[Step]) {
     }
     assert_eq!(
         steps,
-        transform_of(row),
+        steps::transform(row),
         "document 01's steps are not the Rust's"
     );
 }
@@ -188,33 +189,9 @@ fn read_path_transform(row: &mut ClusterRow, steps: &[Step]) {
     }
     assert_eq!(
         steps,
-        path_transform_of(row),
+        steps::path_transform(row),
         "document 01's steps are not the Rust's"
     );
-}
-
-/// The cluster's transform as document 01 has it from the row.
-fn transform_of(row: &ClusterRow) -> Vec<Step> {
-    let steps = [
-        (answer::SIDEWAYS, Step::Translate(0.0, row.nudge)),
-        (answer::SCALED, Step::Scale(row.scale, 1.0)),
-        (0, Step::Translate(row.shift.0, row.shift.1)),
-        (answer::ROTATED, Step::Rotate(row.angle)),
-    ];
-    let taken = steps
-        .into_iter()
-        .filter(|&(flag, _)| row.flags & flag == flag);
-    taken.map(|(_, step)| step).collect()
-}
-
-fn path_transform_of(row: &ClusterRow) -> Vec<Step> {
-    if row.flags & answer::UPRIGHT == 0 {
-        return vec![];
-    }
-    vec![
-        Step::Translate(0.0, row.nudge),
-        Step::RotateAt(-90.0, row.ascent, -row.nudge),
-    ]
 }
 
 fn glyph_row(glyph: &PositionedGlyph) -> GlyphRow {

@@ -1,10 +1,6 @@
-//! Small stand-ins for the types of other crates that the cut text names.
+//! Small stand-ins for the types that the cut text names: of usvg what nothing here reads, and of other crates.
 
-use std::cell::RefCell;
-use std::sync::Arc;
-
-use super::bounded;
-use super::{FontOpticalSizing, Glyph, ResolvedFont, TextChunk, WritingMode};
+use super::{TextChunk, WritingMode};
 
 /// A font's place among the job's font rows.
 #[derive(Clone, Copy, Debug, PartialEq, Eq, Hash)]
@@ -25,33 +21,9 @@ pub struct Font {
     pub variations: SpanNumber,
 }
 
+/// A span's place in its chunk.
 #[derive(Clone, Copy, Debug, PartialEq, Eq, Hash)]
 pub struct SpanNumber(pub usize);
-
-/// What shaping gives: the job's glyphs of each span of the chunk, which is shaped once.
-pub struct FontResolver {
-    pub shaped: RefCell<Vec<Vec<Glyph>>>,
-}
-
-pub mod fontdb {
-    pub struct Database;
-}
-
-#[allow(clippy::too_many_arguments)]
-pub fn shape_text(
-    _text: &str,
-    _font: Arc<ResolvedFont>,
-    _small_caps: bool,
-    _apply_kerning: bool,
-    variations: &SpanNumber,
-    _font_size: f32,
-    _font_optical_sizing: FontOpticalSizing,
-    resolver: &FontResolver,
-    _fontdb: &mut Arc<fontdb::Database>,
-) -> bounded::Vec<Glyph> {
-    let glyphs = std::mem::take(&mut resolver.shaped.borrow_mut()[variations.0]);
-    bounded::Vec::from(glyphs)
-}
 
 pub struct Text {
     pub dx: Vec<f32>,
@@ -61,32 +33,20 @@ pub struct Text {
     pub chunks: Vec<TextChunk>,
 }
 
-#[derive(Clone, Copy, Debug)]
-pub struct NonZeroPositiveF32(pub f32);
-
-impl NonZeroPositiveF32 {
-    pub fn get(self) -> f32 {
-        self.0
-    }
-}
-
-pub trait ApproxZeroUlps {
-    fn approx_zero_ulps(&self, ulps: u32) -> bool;
-}
-
-impl ApproxZeroUlps for f32 {
-    fn approx_zero_ulps(&self, ulps: u32) -> bool {
-        *self == 0.0 || self.to_bits() <= ulps
-    }
-}
-
 #[derive(Clone, Debug)]
-pub struct Fill;
+pub struct Fill {
+    pub rule: FillRule,
+}
+
+#[derive(Clone, Copy, Debug)]
+pub enum FillRule {
+    NonZero,
+}
 
 #[derive(Clone, Debug)]
 pub struct Stroke;
 
-#[derive(Clone, Debug)]
+#[derive(Clone, Copy, Debug)]
 pub struct PaintOrder;
 
 #[derive(Debug)]

@@ -1,12 +1,6 @@
 //! A transform that records its steps instead of composing a matrix.
 
-#[derive(Clone, Copy, Debug, PartialEq)]
-pub enum Step {
-    Translate(f32, f32),
-    Scale(f32, f32),
-    Rotate(f32),
-    RotateAt(f32, f32, f32),
-}
+use crate::steps::Step;
 
 const MOST: usize = 4;
 

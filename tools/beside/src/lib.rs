@@ -1,0 +1,20 @@
+//! Jobs that reach much, the library's call, and what sets both sides beside each other.
+
+pub mod cases;
+pub mod compare;
+pub mod damage;
+pub mod encode;
+pub mod exact;
+pub mod fields;
+pub mod generate;
+pub mod labels;
+pub mod library;
+pub mod limits;
+pub mod near;
+pub mod random;
+pub mod reach;
+pub mod shown;
+pub mod store;
+pub mod tables;
+pub mod tell;
+pub mod whole;
