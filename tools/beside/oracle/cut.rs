@@ -42,6 +42,14 @@ const LAYOUT: &[&str] = &[
 /// Apart from the others, since its lists are of another type (src/rust/merge.rs).
 const MERGE: &[&str] = &["fn process_chunk("];
 
+/// What holds them together, and the transforms of a glyph and of a cluster. Only `composed` reads it.
+const CALL: &[&str] = &[
+    "impl PositionedGlyph ",
+    "impl GlyphCluster ",
+    "fn layout_text(",
+    "fn resolve_clusters_positions(",
+];
+
 const TREE: &[&str] = &[
     "enum DominantBaseline ",
     "enum AlignmentBaseline ",
@@ -59,6 +67,9 @@ const TREE: &[&str] = &[
 
 const GEOM: &[&str] = &["trait IsValidLength ", "impl IsValidLength for f32 "];
 
+/// Only `composed` reads it.
+const ULPS: &[&str] = &["trait ApproxZeroUlps", "impl ApproxZeroUlps for f32 "];
+
 /// A file of cut text: the name that src/rust includes it by.
 pub struct Cut {
     pub name: &'static str,
@@ -75,8 +86,10 @@ pub fn cuts() -> Vec<Cut> {
     vec![
         cut(&sources.join("text/layout.rs"), LAYOUT, "layout.rs"),
         cut(&sources.join("text/layout.rs"), MERGE, "merge.rs"),
+        cut(&sources.join("text/layout.rs"), CALL, "call.rs"),
         cut(&sources.join("tree/text.rs"), TREE, "tree.rs"),
         cut(&sources.join("tree/geom.rs"), GEOM, "geom.rs"),
+        cut(&sources.join("tree/geom.rs"), ULPS, "ulps.rs"),
     ]
 }
 

@@ -1,5 +1,7 @@
 //! The library and the definitions beside the Rust's own layout. README.md says how to use it.
 
+mod composed;
+
 use std::error::Error;
 use std::io::Write;
 use std::path::Path;
@@ -14,6 +16,9 @@ const USAGE: &str = "\
 beside run SEED COUNT       the library beside the Rust, on jobs of every kind
 beside reach SEED COUNT     what these jobs show, and which branches of the Rust's text they take
 beside readings SEED COUNT  after how many of them each wrong reading is told apart
+beside transforms SEED COUNT
+                            the library's rows composed to transforms, beside the Rust's own
+beside tables SEED COUNT    the same where tags and orientations are those of the Unicode tables
 beside near SEED COUNT      how far answers are from the exact layout, as a share of demand 3's bound
 beside store COUNT DIR      jobs for crates/replay, chosen for what they show, with the Rust's answers
 beside replay DIR           the library beside the answers of such jobs
@@ -30,6 +35,7 @@ fn main() -> Done {
         ["run", seed, count] => run(cases::all(seed.parse()?, count.parse()?)),
         ["reach", seed, count] => reach::print(seed.parse()?, count.parse()?),
         ["readings", seed, count] => tell::print(seed.parse()?, count.parse()?),
+        ["transforms" | "tables", _, _] => Ok(composed::run(&words)?),
         ["near", seed, count] => near::print(seed.parse()?, count.parse()?),
         ["store", count, dir] => store::write(count.parse()?, Path::new(dir)),
         ["replay", dir] => replay(Path::new(dir)),
