@@ -3,15 +3,18 @@
 use beside::library;
 use oracle::answer::{self, ChunkRow};
 use oracle::bytes::hex;
+use tiny_skia_path::Transform;
 
 use crate::job::Job;
 use crate::recipe::{drawn, Recipe, RIGHT};
 use crate::rust::{self, Lookups};
 use crate::tally::Tally;
 use crate::transforms::{same, Transforms};
-use crate::wrong::chain;
+use crate::wrong::{chain, sizes};
 
 const MOST_LENT: usize = 1 << 18;
+/// The error of one rounding is at most a share of 1 ÷ UNIT.
+const UNIT: f64 = (1 << 24) as f64;
 /// Differences printed in full; the rest are counted.
 const MOST_PRINTED: usize = 20;
 
@@ -21,10 +24,17 @@ pub struct Found {
     buffer: Vec<u8>,
     tally: Tally,
     differences: usize,
-    /// Glyphs whose steps in one chain give other bits than in groups.
-    chained: usize,
+    chained: Chained,
     /// The job by which each wrong reading was told apart.
     told: Vec<Option<usize>>,
+}
+
+/// Glyphs whose steps in one chain give other bits than in groups.
+#[derive(Default)]
+struct Chained {
+    glyphs: usize,
+    /// How far the place is off at most, as a share of the sizes that it is added up from.
+    most: f64,
 }
 
 impl Found {
@@ -35,7 +45,7 @@ impl Found {
             buffer: vec![0; MOST_LENT],
             tally: Tally::default(),
             differences: 0,
-            chained: 0,
+            chained: Chained::default(),
             told: vec![None; wrong.len()],
         }
     }
@@ -68,7 +78,7 @@ impl Found {
     fn compare(&mut self, number: usize, job: &Job, rows: &[ChunkRow]) -> Option<String> {
         let rust = rust::transforms(job, self.lookups);
         self.tally.add(job, rows);
-        self.chained += chained(job, rows, &rust);
+        self.chained.add(job, rows, &rust);
         self.tell(number, job, rows, &rust);
         RIGHT.transforms(job, rows).difference(&rust)
     }
@@ -84,10 +94,9 @@ impl Found {
     /// Prints it all; the verdict is no difference, and every wrong reading told apart.
     pub fn verdict(&self) -> Result<(), String> {
         self.tally.print();
-        println!(
-            "glyphs that one chain of steps gives other bits: {}",
-            self.chained
-        );
+        let Chained { glyphs, most } = self.chained;
+        println!("glyphs that one chain of steps gives other bits: {glyphs},");
+        println!("  off by at most {:.2} x 2^-24 of their sizes", most * UNIT);
         let never = self.print_told();
         println!("differences {}", self.differences);
         match (self.differences, never) {
@@ -109,11 +118,25 @@ impl Found {
     }
 }
 
-fn chained(job: &Job, rows: &[ChunkRow], rust: &Transforms) -> usize {
-    let chunks = job.chunks.iter().zip(rows);
-    let spans = chunks.flat_map(|(chunk, row)| row.spans.iter().map(move |of| (chunk, row, of)));
-    let glyphs = spans.flat_map(|(chunk, row, of)| drawn(job, chunk, row, of));
-    let theirs = rust.spans.iter().flat_map(|span| &span.glyphs);
-    let other = |(glyph, ts): &(_, &_)| !same(&chain(glyph), ts);
-    glyphs.zip(theirs).filter(other).count()
+impl Chained {
+    fn add(&mut self, job: &Job, rows: &[ChunkRow], rust: &Transforms) {
+        let chunks = job.chunks.iter().zip(rows);
+        let spans =
+            chunks.flat_map(|(chunk, row)| row.spans.iter().map(move |of| (chunk, row, of)));
+        let glyphs = spans.flat_map(|(chunk, row, of)| drawn(job, chunk, row, of));
+        let theirs = rust.spans.iter().flat_map(|span| &span.glyphs);
+        for (glyph, ts) in glyphs.zip(theirs) {
+            let one = chain(&glyph);
+            if !same(&one, ts) {
+                self.glyphs += 1;
+                self.most = self.most.max(apart(&one, ts) / sizes(&glyph));
+            }
+        }
+    }
+}
+
+/// Along x or along y, whichever is more.
+fn apart(one: &Transform, other: &Transform) -> f64 {
+    let along = |a: f32, b: f32| (a as f64 - b as f64).abs();
+    along(one.tx, other.tx).max(along(one.ty, other.ty))
 }

@@ -185,7 +185,7 @@ fn about_zero(mut steps: Vec<Step>) -> Vec<Step> {
     steps
 }
 
-/// Every step appended to the ones before it: the same place, other roundings.
+/// Every step appended to the ones before it: the same place but for rounding.
 pub fn chain(drawn: &Drawn) -> Transform {
     let size = (RIGHT.size)(drawn);
     let last = [
@@ -200,4 +200,19 @@ pub fn chain(drawn: &Drawn) -> Transform {
         last.to_vec(),
     ];
     parts.iter().flatten().fold(Transform::default(), appended)
+}
+
+/// What a glyph's place is added up from, signs dropped: rounding is measured by it.
+pub fn sizes(drawn: &Drawn) -> f64 {
+    let (row, span, glyph) = (drawn.cluster, drawn.span_row, drawn.glyph);
+    let stretch = row.scale.abs().max(1.0) as f64;
+    let size = (RIGHT.size)(drawn) as f64;
+    let of_span = [span.origin.0, span.origin.1, span.baseline_shift];
+    let of_cluster = [row.shift.0, row.shift.1, row.nudge, row.ascent];
+    let of_glyph = [glyph.x, glyph.y];
+    sum(&of_span) + stretch * (sum(&of_cluster) + size * sum(&of_glyph))
+}
+
+fn sum(floats: &[f32]) -> f64 {
+    floats.iter().map(|x| x.abs() as f64).sum()
 }
