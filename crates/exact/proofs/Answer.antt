@@ -31,13 +31,11 @@ use Rattle.labels.specs.Cluster.{rounded, markRelativeShifts}
 use Rattle.labels.specs.Answer.{ClusterRow, ChunkRow, answerBytes}
 use Rattle.labels.specs.Layout.{bit, flagsOf, clusterRow, adjustedClusters, resolveClustersPositionsHorizontal, LaidChunk, Progress, beginning, placeChunk, layoutChunk, layoutJob, rowsOf, layoutRows, fitting, layoutOf, bufferAfter}
 use Rattle.labels.specs.Exact.{ExactCluster, AllPairs, Near, NearChunk, NearChunks, NearAnswer, allowed, formedExactly, layoutExactly}
-use Rattle.rounding.proofs.Near.{Near as NearBy}
 use Rattle.rounding.proofs.Inputs.{Input}
 use Rattle.exact.proofs.Formed.{FontIn, GlyphIn}
 use Rattle.exact.proofs.Spaced.{SpanIn}
-use Rattle.exact.proofs.Positions.{Offset}
 use Rattle.exact.proofs.Accepted.{input, spans-in, fonts-in, glyph-in, groups-in}
-use Rattle.exact.proofs.Chunk.{offset-pairs, near}
+use Rattle.exact.proofs.Chunk.{Placed, chunk-placed}
 
 -- ---- a row
 
@@ -66,21 +64,21 @@ flags-collapsed mode c =
     go true low h = eq-eqb ((low + 32) / 32 % 2) 1 (omega arith)
     go false low h = ne-eqb ((low + 0) / 32 % 2) 1 (λ (e : (low + 0) / 32 % 2 ≡ 1). omega arith)
 
-row-near : {b : Frac} {c : Cluster} {q : ExactCluster} {D S m e : ℕ} (mode : ℕ) (gs : List Glyph) → Offset D S m e c q → NearBy (c .x) (q .x) b → Near b (clusterRow mode gs c) q
+row-near : {b : Frac} {c : Cluster} {q : ExactCluster} (mode : ℕ) (gs : List Glyph) → Placed b c q → Near b (clusterRow mode gs c) q
 unfolding clusterRow
-row-near {c = c} mode gs o n =
+row-near {c = c} mode gs p =
+    let n = p .near in
     record {
-      index = o .index;
-      collapsed = flags-collapsed mode c ∙ o .collapsed;
+      index = p .index;
+      collapsed = flags-collapsed mode c ∙ p .collapsed;
       finite = n .0;
       above = (value-positive (c .x), n .1, n .2);
       distance = n .3;
     }
 
-rows-near : {b : Frac} {D S m e : ℕ} {cs : List Cluster} {qs : List ExactCluster} (mode : ℕ) (gs : List Glyph) → ((c : Cluster) (q : ExactCluster) → Offset D S m e c q → NearBy (c .x) (q .x) b)
-    → AllPairs (Offset D S m e) cs qs → AllPairs (Near b) (map (clusterRow mode gs) cs) qs
-rows-near mode gs h AllPairs.none = AllPairs.none
-rows-near mode gs h (AllPairs.more o os) = AllPairs.more (row-near mode gs o (h _ _ o)) (rows-near mode gs h os)
+rows-near : {b : Frac} {cs : List Cluster} {qs : List ExactCluster} (mode : ℕ) (gs : List Glyph) → AllPairs (Placed b) cs qs → AllPairs (Near b) (map (clusterRow mode gs) cs) qs
+rows-near mode gs AllPairs.none = AllPairs.none
+rows-near mode gs (AllPairs.more p ps) = AllPairs.more (row-near mode gs p) (rows-near mode gs ps)
 
 -- a step that gives a value was reached
 reached : {A B : Type 0} (o : Outcome A) (f : A → Outcome B) (b : B) → andThen o f ≡ given b → (a : A) × (o ≡ given a) × (f a ≡ given b)
@@ -105,11 +103,11 @@ pub record JobIn (job : Job) : Type 0 where
 
 module _ (job : Job) (fonts : All FontIn (job .fonts)) (dxs : All Input (job .dx)) (dys : All Input (job .dy)) where
   placed-near : (c : Chunk) → ChunkIn job c → (offset : ℕ) (gs : List Glyph) (ds : List Cluster) → mergeGlyphs (c .parts) ≡ given gs → adjustedClusters job c gs ≡ given ds
-      → AllPairs (Near (allowed 18 job offset c (formedExactly job c gs))) (map (clusterRow (job .mode) gs) (resolveClustersPositionsHorizontal job offset c ds .clusters)) (layoutExactly job offset c (formedExactly job c gs))
+      → AllPairs (Near (allowed job offset c (formedExactly job c gs))) (map (clusterRow (job .mode) gs) (resolveClustersPositionsHorizontal job offset c ds .clusters)) (layoutExactly job offset c (formedExactly job c gs))
   placed-near c i offset gs ds m e =
       let known = i .glyphs gs m in
       let gi = groups-in (known .0) (known .1) (i .spans) in
-      rows-near (job .mode) gs (near job c offset gs fonts (i .spans) (i .order) (i .few) dxs dys gi ds e) (offset-pairs job c offset gs fonts (i .spans) (i .order) (i .few) dxs dys gi ds e)
+      rows-near (job .mode) gs (chunk-placed job c offset gs fonts (i .spans) (i .order) (i .few) dxs dys gi ds e)
 
   -- no cluster, no row
   turn-none : (mode : ℕ) → turnShifts rounded mode [] ≡ []
@@ -133,7 +131,7 @@ module _ (job : Job) (fonts : All FontIn (job .fonts)) (dxs : All Input (job .dx
   unfolding NearChunk
   chunk-near c i offset gs ds m e row h =
       subst (λ (o : Outcome (List Glyph)). NearChunk job offset c o row) (sym m)
-      (subst (λ (l : List ClusterRow). AllPairs (Near (allowed 18 job offset c (formedExactly job c gs))) l (layoutExactly job offset c (formedExactly job c gs))) (sym h) (placed-near c i offset gs ds m e))
+      (subst (λ (l : List ClusterRow). AllPairs (Near (allowed job offset c (formedExactly job c gs))) l (layoutExactly job offset c (formedExactly job c gs))) (sym h) (placed-near c i offset gs ds m e))
 
   -- ---- the chunks in order
 

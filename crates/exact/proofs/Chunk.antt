@@ -1,12 +1,13 @@
--- A chunk: every cluster's offset is finite and within (g + 3) × T ÷ 2 ^ 18 of the exact one. Assumes nothing.
+-- A chunk: every cluster's offset is finite, and as near to the exact one as its chunk's sharpness says. Assumes nothing.
 use Prim.Native.Nat.{ℕ, _+_, _-_, _*_, _^_, _≤_, _<_}
 use mathlib.Core.Path.{_≡_, refl, sym, ap, _∙_, subst, subst₂}
 use mathlib.Core.Bool.{Bool, true, false, cond, _&&_}
 use mathlib.Core.List.{List, [], _∷_, map, foldl, map-map}
-use native.Mathlib.Nat.{one-mul, zero-add, mul-assoc, le-of-eq, le-trans, mul-pos, mul-le-mul-right}
+use native.Mathlib.Nat.{one-mul, mul-assoc, le-of-eq, le-trans, mul-pos}
 use native.Mathlib.Omega.{arith}
 use lib.ListN.{length, length-map}
 use lib.Dec.{T, ltb, eqb, ltb→lt, lit<}
+use lib.Pow.{pow-pos}
 use lib.IntN.{pos}
 use Rattle.rounding.specs.Fraction.{Frac, _·ᵠ_, _/ᵠ_}
 use Rattle.rounding.proofs.Units.{unit, reach}
@@ -22,22 +23,25 @@ use Rattle.labels.specs.declared.Span.{Span}
 use Rattle.labels.specs.declared.Glyph.{Glyph}
 use Rattle.labels.specs.declared.Cluster.{Cluster}
 use Rattle.labels.specs.Outcome.{given}
+use Rattle.labels.specs.Lists.{any}
 use Rattle.labels.specs.Job.{Job, Chunk, spansOf, hasLength, adjustSpacing}
 use Rattle.labels.specs.Check.{spansOk}
 use Rattle.labels.specs.Group.{Group, groups}
 use Rattle.labels.specs.Spacing.{applyLetterSpacing, applyWordSpacing}
-use Rattle.labels.specs.Position.{resolveRelativeShifts, turnShifts}
+use Rattle.labels.specs.Position.{resolveRelativeShifts, turnShifts, positioned}
 use Rattle.labels.specs.Cluster.{rounded, applyLengthAdjust, markRelativeShifts}
 use Rattle.labels.specs.Layout.{collapsedClusters, adjustedClusters, resolveClustersPositionsHorizontal}
-use Rattle.labels.specs.Exact.{ExactCluster, exact, formedExactly, adjustSpanExactly, layoutExactly, sizeTotal, allowed, AllPairs}
+use Rattle.labels.specs.Exact.{ExactCluster, exact, formedExactly, adjustSpanExactly, layoutExactly, sizeTotal, allowed, sharpness, AllPairs}
 use Rattle.exact.proofs.Products.{product, product-positive}
 use Rattle.exact.proofs.Load.{Load}
 use Rattle.exact.proofs.Formed.{FontIn, Frame, unitsOf}
 use Rattle.exact.proofs.Spaced.{SpanIn, GroupIn, Spaced, wordPart, written-formed, lettered, spaced}
 use Rattle.exact.proofs.Places.{marked, marksFrom}
-use Rattle.exact.proofs.Lengths.{Adjusted, divisor, lengthsMass, all-spans, bodiesMass, adjusted-first, totals}
+use Rattle.exact.proofs.Lengths.{Adjusted, divisor, lengthsMass, all-spans, bodiesMass, adjusted-first}
+use Rattle.exact.proofs.Summed.{Summed, adjusted-summed, plain-floats, plain-fractions, plain-summed}
 use Rattle.exact.proofs.Shifts.{Shifted, shiftMass, shifted, shifted-indexes}
 use Rattle.exact.proofs.Positions.{Offset, offsetError, reachMass, marked-shifted, offsets}
+use Rattle.exact.proofs.Numbers.{Sizes, Numbers, length-numbers, plain-numbers, H-small, shifts-fit, fits, room}
 use Rattle.exact.proofs.Accepted.{GroupsIn, glyphCount}
 use Rattle.exact.proofs.Total.{groupsMass, indexesOf, groupsOf, total-load}
 use Rattle.exact.proofs.Groups.{spaced-groups, formed-groups, glyph-total, all-groups}
@@ -74,35 +78,13 @@ pub frame-of : {fonts : List Font} (spans : List Span) (is : List ℕ) → All F
 frame-of {fonts} spans is fs =
     record { scale = scale-at _ (mul-pos (units-positive fs) (mul-pos (divisors-positive is spans) (lit< tt))); is = refl; good = fs }
 
--- ---- in numbers
-
--- H: the clusters with their spacing and the text lengths; X: the shifts; n clusters of g glyphs
-record Numbers (S z g n H X : ℕ) : Type 0 where
-  H-small : H ≤ 2 ^ 48 * z
-  X-fits : X ≤ S
-  roomB : (56 * g + 46) * H + 9 * (g * (3 * H)) ≤ 2 ^ 24 * (3 * H)
-  roomM : offsetError (3 * H) ((56 * g + 46) * H) g X (9 * (n * X)) H (56 * H) ≤ 2 ^ 24 * reachMass (3 * H) X H
-  fits : 6 * reachMass (3 * H) X H ≤ S
-  bound : offsetError (3 * H) ((56 * g + 46) * H) g X (9 * (n * X)) H (56 * H) ≤ 512 * ((g + 3) * (H + X))
-
-numbers : (S z g n s H X : ℕ) → 2 ^ 50 * z ≤ S → g ≤ 1024 → n ≤ g → s ≤ 32 → H + X ≤ (g + 4 * n + s) * (2 ^ 28 * z) → Numbers S z g n H X
-numbers S z g n s H X large gs ns ss small =
-    record {
-      H-small = omega (arith, far);
-      X-fits = omega (arith, far);
-      roomB = omega (arith, mul-le-mul-right H gs);
-      roomM = omega (arith, mul-le-mul-right H gs, mul-le-mul-right X gs, mul-le-mul-right X ns);
-      fits = omega (arith, far);
-      bound = omega (arith, mul-le-mul-right X ns);
-    }
-  where
-    few : g + 4 * n + s ≤ 5152
-    few = omega arith
-
-    far : H + X ≤ 5152 * (2 ^ 28 * z)
-    far = le-trans small (mul-le-mul-right (2 ^ 28 * z) few)
-
 -- ---- the chunk
+
+-- a cluster beside the exact one: its offset is within b
+pub record Placed (b : Frac) (d : Cluster) (q : ExactCluster) : Type 0 where
+  pub index : d .index ≡ q .group .first .index
+  pub collapsed : d .collapsed ≡ q .collapsed
+  pub near : Near (d .x) (q .x) b
 
 module _ (job : Job) (c : Chunk) (offset : ℕ) (gs : List Glyph) (fonts : All FontIn (job .fonts)) (ss : All SpanIn (spansOf c)) (in-order : T (spansOk c)) (few-spans : length (spansOf c) ≤ 32) (dxs : All Input (job .dx)) (dys : All Input (job .dy))
     (gi : GroupsIn (job .fonts) (spansOf c) 1024 (groups (spansOf c) gs)) where
@@ -154,8 +136,8 @@ module _ (job : Job) (c : Chunk) (offset : ℕ) (gs : List Glyph) (fonts : All F
       (subst (λ (n : ℕ). Load D (sizeTotal job offset c formed) (massOf (groupsOf formed)) (glyphCount (groupsOf formed) + 4 * n + length spans)) (sym (length-map formed (λ (q : ExactCluster). q .group)))
       (total-load job c offset frame dxs dys formed (subst (All (GroupIn (job .fonts) spans)) (sym formed-of) (gi .groups)) ss))
 
-  nums : Numbers S (unit * D) g (length G) H X
-  nums = numbers S (unit * D) g (length G) (length spans) H X (frame .scale .large) (gi .few) (gi .count) few-spans (total .small)
+  sizes : Sizes S (unit * D) g (length G) (length spans) H X
+  sizes = record { large = frame .scale .large; glyphs = gi .few; clusters = gi .count; spans = few-spans; total = total .small }
 
   -- ---- steps 2 to 5
   abbrev floats : List Cluster
@@ -182,81 +164,102 @@ module _ (job : Job) (c : Chunk) (offset : ℕ) (gs : List Glyph) (fonts : All F
   bodies-of [] = refl
   bodies-of (q ∷ qs) = ap (λ (n : ℕ). wordPart (job .fonts) spans K D (q .group) + n) (bodies-of qs)
 
-  -- ---- step 6
-  module _ (ds : List Cluster) (e : adjustedClusters job c gs ≡ given ds) where
-    abbrev adjustedExactly : List ExactCluster
-    adjustedExactly = foldl adjustSpanExactly fractions spans
+  counts : All (λ q. length (q .group .glyphs) ≤ g) fractions
+  counts = all-groups (λ h. length (h .glyphs) ≤ g) fractions (subst (All (λ h. length (h .glyphs) ≤ g)) (sym fractions-of) (gi .each))
 
-    start : Adjusted (job .fonts) spans K D S g 0 H (groupsMass (job .fonts) spans K D G) 0 is floats fractions
-    start =
-        subst₂ (λ (b : ℕ) (l : List ℕ). Adjusted (job .fonts) spans K D S g 0 H b 0 l floats fractions) (bodies-of fractions ∙ ap (groupsMass (job .fonts) spans K D) fractions-of) indexes-of
-        (adjusted-first spans frame beside (all-groups (λ h. length (h .glyphs) ≤ g) fractions (subst (All (λ h. length (h .glyphs) ≤ g)) (sym fractions-of) (gi .each))) (subst (λ (n : ℕ). n ≤ g) (sym length-of) (gi .count)))
+  few : length fractions ≤ g
+  few = subst (λ (n : ℕ). n ≤ g) (sym length-of) (gi .count)
 
-    adjusted : (to : ℕ) × Adjusted (job .fonts) spans K D S g to H (groupsMass (job .fonts) spans K D G) (0 + lengthsMass D spans) is ds adjustedExactly
-    unfolding adjustedClusters applyLengthAdjust spansOk
-    adjusted = all-spans frame (gi .few) (nums .H-small) (length (c .text)) spans ss in-order 1 (sym (one-mul K)) (omega arith) start ds e
+  bodies : bodiesMass spans frame fractions ≡ groupsMass (job .fonts) spans K D G
+  bodies = bodies-of fractions ∙ ap (groupsMass (job .fonts) spans K D) fractions-of
 
-    abbrev a : Adjusted (job .fonts) spans K D S g (adjusted .0) H (groupsMass (job .fonts) spans K D G) (0 + lengthsMass D spans) is ds adjustedExactly
-    a = adjusted .1
+  -- ---- step 7, whatever step 6 leaves, and the distance
+  abbrev moved : List Cluster → List Cluster
+  moved ds = markRelativeShifts job (c .text) offset (turnShifts rounded (job .mode) (resolveRelativeShifts rounded job (c .text) offset ds))
 
-    length-adjusted : length adjustedExactly ≡ length G
-    length-adjusted = sym (length-map adjustedExactly (exact .index)) ∙ ap length (a .indexes) ∙ length-map G (λ (g : Group). g .first .index)
+  abbrev movedExactly : List ExactCluster → List ExactCluster
+  movedExactly qs = turnShifts exact (job .mode) (resolveRelativeShifts exact job (c .text) offset qs)
 
-    -- ---- step 7
+  abbrev bound : ℕ → Frac
+  bound k = pos (g + 3) ·ᵠ sizeTotal job offset c formed /ᵠ (2 ^ k)
+
+  abbrev Within : Frac → List Cluster → List ExactCluster → Type 0
+  Within b ds qs = AllPairs (Placed b) (positioned rounded (c .anchor) (moved ds) .clusters) (positioned exact (c .anchor) (movedExactly qs) .clusters)
+
+  module _ {Y B E k : ℕ} {ds : List Cluster} {qs : List ExactCluster} (nums : Numbers g (length G) H X Y B E k) (left : Summed (job .fonts) spans K D S g Y B E is ds qs) where
+    as-many-left : length qs ≡ length G
+    as-many-left = sym (length-map qs (exact .index)) ∙ ap length (left .indexes) ∙ length-map G (λ (g : Group). g .first .index)
+
     abbrev Ex : ℕ
     Ex = 9 * (length G * X)
 
-    abbrev moved : List Cluster
-    moved = turnShifts rounded (job .mode) (resolveRelativeShifts rounded job (c .text) offset ds)
-
-    abbrev movedExactly : List ExactCluster
-    movedExactly = turnShifts exact (job .mode) (resolveRelativeShifts exact job (c .text) offset adjustedExactly)
-
-    shifts : Shifted D S H (56 * H) X Ex (a .cells) (markRelativeShifts job (c .text) offset moved) movedExactly
+    shifts : Shifted D S Y (56 * Y) X Ex (left .cells) (moved ds) (movedExactly qs)
     shifts =
         marked-shifted job (c .text) offset
-        (subst (λ (n : ℕ). Shifted D S H (56 * H) X (9 * (n * X)) (a .cells) moved movedExactly) length-adjusted
-        (shifted (frame .scale) (product (unitsOf (job .fonts)) * K) (sym (mul-assoc (product (unitsOf (job .fonts))) K 2)) job (c .text) offset dxs dys (subst (λ (n : ℕ). n ≤ 1024) (sym length-adjusted) (le-trans (gi .count) (gi .few))) (nums .X-fits)
-        (le-of-eq (ap (λ (l : List ℕ). shiftMass D (job .dx) (c .text) offset l + shiftMass D (job .dy) (c .text) offset l) (a .indexes))) (a .lined)))
+        (subst (λ (n : ℕ). Shifted D S Y (56 * Y) X (9 * (n * X)) (left .cells) (turnShifts rounded (job .mode) (resolveRelativeShifts rounded job (c .text) offset ds)) (movedExactly qs)) as-many-left
+        (shifted (frame .scale) (product (unitsOf (job .fonts)) * K) (sym (mul-assoc (product (unitsOf (job .fonts))) K 2)) job (c .text) offset dxs dys (subst (λ (n : ℕ). n ≤ 1024) (sym as-many-left) (le-trans (gi .count) (gi .few))) (shifts-fit sizes)
+        (le-of-eq (ap (λ (l : List ℕ). shiftMass D (job .dx) (c .text) offset l + shiftMass D (job .dy) (c .text) offset l) (left .indexes))) (left .lined)))
 
     abbrev M : ℕ
-    M = reachMass (3 * H) X H
+    M = reachMass B X Y
 
     absorbs : Absorbs D (M + M) M
     absorbs = go (total .absorbs)
       where
         go : Absorbs D (H + X) (H + X) → Absorbs D (M + M) M
-        go (empty z) = empty (none H X z)
+        go (empty z) = empty (none (H + X) M z (nums .most))
           where
-            none : (h x : ℕ) → h + x ≡ 0 → 3 * h + x + h + (3 * h + x + h) ≡ 0
-            none h x z = omega arith
-        go (covered k) = covered (le-trans k (more H X))
-          where
-            more : (h x : ℕ) → h + x ≤ 3 * h + x + h
-            more h x = omega arith
+            none : (t m : ℕ) → t ≡ 0 → m ≤ 4 * t → m + m ≡ 0
+            none t m z h = omega arith
+        go (covered z) = covered (le-trans z (nums .least))
 
     abbrev Eo : ℕ
-    Eo = offsetError (3 * H) ((56 * g + 46) * H) g X Ex H (56 * H)
+    Eo = offsetError B E g X Ex Y (56 * Y)
 
-    pub offset-pairs : AllPairs (Offset D S (6 * M) Eo) (resolveClustersPositionsHorizontal job offset c ds .clusters) (layoutExactly job offset c formed)
-    unfolding resolveClustersPositionsHorizontal layoutExactly
-    offset-pairs =
-        offsets (frame .scale) H (56 * H) X Ex (3 * H) ((56 * g + 46) * H) g (nums .roomB) (nums .roomM) (nums .fits) (c .anchor) absorbs shifts (shifted-indexes shifts)
-        (le-trans (totals a .0) (le-of-eq (ap (λ (l : ℕ). 3 * (groupsMass (job .fonts) spans K D G + l)) (zero-add (lengthsMass D spans)))))
-        (le-trans (totals a .1) (le-of-eq (ap (λ (l : ℕ). (56 * g + 46) * (groupsMass (job .fonts) spans K D G + l)) (zero-add (lengthsMass D spans))))) (a .few)
-
-    -- ---- the distance
-    allowed-of : allowed 18 job offset c formed ≡ pos (g + 3) ·ᵠ sizeTotal job offset c formed /ᵠ (2 ^ 18)
-    unfolding allowed
-    allowed-of = ap (λ (n : ℕ). pos (n + 3) ·ᵠ sizeTotal job offset c formed /ᵠ (2 ^ 18)) (glyph-total formed ∙ ap glyphCount formed-of)
-
-    pub near : (d : Cluster) (q : ExactCluster) → Offset D S (6 * M) Eo d q → Near (d .x) (q .x) (allowed 18 job offset c formed)
-    near d q o =
-        subst (λ (b : Frac). Near (d .x) (q .x) b) (sym allowed-of)
-        (track-near (2 ^ 18) (lit< tt) (o .x) (reads-as ((g + 3) * (H + X)) 0 (whole (g + 3) (H + X)) (reads-mul (pos (g + 3)) (total .reads))) (scale Eo ((g + 3) * (H + X)) (nums .bound)))
+    near : {d : Cluster} {q : ExactCluster} → Offset D S (6 * M) Eo d q → Near (d .x) (q .x) (bound k)
+    near o = track-near (2 ^ k) (pow-pos k) (o .x) (reads-as ((g + 3) * (H + X)) 0 (whole (g + 3) (H + X)) (reads-mul (pos (g + 3)) (total .reads))) (nums .distance)
       where
         whole : (k t : ℕ) → k * t + 0 * 0 + 0 ≡ k * t + (k * 0 + 0 * t)
         whole k t = omega arith
 
-        scale : (e z : ℕ) → e ≤ 512 * z → e * 2 ^ 18 ≤ 2 ^ 27 * z
-        scale e z h = omega arith
+    all-near : {ds : List Cluster} {qs : List ExactCluster} → AllPairs (Offset D S (6 * M) Eo) ds qs → AllPairs (Placed (bound k)) ds qs
+    all-near AllPairs.none = AllPairs.none
+    all-near (AllPairs.more o os) = AllPairs.more (record { index = o .index; collapsed = o .collapsed; near = near o }) (all-near os)
+
+    within : Within (bound k) ds qs
+    within = all-near (offsets (frame .scale) Y (56 * Y) X Ex B E g (nums .advances) (room sizes nums) (fits sizes nums) (c .anchor) absorbs shifts (shifted-indexes shifts) (left .mass) (left .error) (left .few))
+
+  -- ---- step 6, with a text length and without one
+  module _ (ds : List Cluster) (e : adjustedClusters job c gs ≡ given ds) where
+    abbrev adjustedExactly : List ExactCluster
+    adjustedExactly = foldl adjustSpanExactly fractions spans
+
+    length-within : Within (bound 18) ds adjustedExactly
+    unfolding adjustedClusters applyLengthAdjust spansOk
+    length-within =
+        let start =
+        subst₂ (λ (b : ℕ) (l : List ℕ). Adjusted (job .fonts) spans K D S g 0 H b 0 l floats fractions) bodies indexes-of (adjusted-first spans frame beside counts few) in
+        let all = all-spans frame (gi .few) (H-small sizes) (length (c .text)) spans ss in-order 1 (sym (one-mul K)) (omega arith) start ds e in
+        within (length-numbers sizes) (adjusted-summed (all .1) (omega arith))
+
+    plain-within : any hasLength spans ≡ false → Within (bound 20) ds adjustedExactly
+    unfolding adjustedClusters applyLengthAdjust
+    plain-within plain =
+        subst₂ (Within (bound 20)) unchanged (sym (plain-fractions spans plain fractions))
+        (within (plain-numbers sizes) (subst (λ (l : List ℕ). Summed (job .fonts) spans K D S g 0 H ((9 * g + 37) * H) l floats fractions) indexes-of (plain-summed spans frame beside counts few (omega (arith, bodies)))))
+      where
+        unchanged : floats ≡ ds
+        unchanged = cc (plain-floats spans plain floats)
+
+    allowed-of : allowed job offset c formed ≡ bound (sharpness c)
+    unfolding allowed
+    allowed-of = ap (λ (n : ℕ). pos (n + 3) ·ᵠ sizeTotal job offset c formed /ᵠ (2 ^ sharpness c)) (glyph-total formed ∙ ap glyphCount formed-of)
+
+    pub chunk-placed : AllPairs (Placed (allowed job offset c formed)) (resolveClustersPositionsHorizontal job offset c ds .clusters) (layoutExactly job offset c formed)
+    unfolding resolveClustersPositionsHorizontal layoutExactly
+    chunk-placed =
+        subst (λ (b : Frac). Within b ds adjustedExactly) (sym allowed-of) (go (any hasLength spans) refl)
+      where
+        go : (b : Bool) → any hasLength spans ≡ b → Within (bound (cond b 18 20)) ds adjustedExactly
+        go true h = length-within
+        go false h = plain-within h

@@ -14,7 +14,6 @@ use lib.Ieee.Fits.{and-l, and-r}
 use Rattle.rounding.specs.Fraction.{Frac}
 use Rattle.rounding.proofs.Units.{unit, sizeOf}
 use Rattle.rounding.proofs.Track.{Track, track-lower}
-use Rattle.rounding.proofs.Sums.{Terms}
 use Rattle.rounding.proofs.Operands.{track-zero}
 use Rattle.laws.proofs.All.{All}
 use Rattle.labels.specs.declared.Font.{Font}
@@ -296,7 +295,7 @@ never e = let z : _≡_ {A = ℕ} 0 1 = cc in absurd (omega arith)
 -- ---- before the first span
 
 module _ {fonts : List Font} (spans : List Span) {K D S : ℕ} (frame : Frame fonts K D S) where
-  abbrev cellOf : ExactCluster → Cell
+  abbrev pub cellOf : ExactCluster → Cell
   cellOf q =
       record {
         A = glyphPart fonts spans K D (q .group);
@@ -323,7 +322,7 @@ module _ {fonts : List Font} (spans : List Span) {K D S : ℕ} (frame : Frame fo
         past = λ e. never e;
       }
 
-  lined-first : {H : ℕ} {cs : List Cluster} {qs : List ExactCluster} → AllPairs (Spaced spans frame) cs qs → Lined fonts spans K D S 0 H (map cellOf qs) cs qs
+  pub lined-first : {H : ℕ} {cs : List Cluster} {qs : List ExactCluster} → AllPairs (Spaced spans frame) cs qs → Lined fonts spans K D S 0 H (map cellOf qs) cs qs
   lined-first AllPairs.none = Lined.none
   lined-first (AllPairs.more p ps) = Lined.more (beside-first p) (lined-first ps)
 
@@ -350,12 +349,6 @@ module _ {fonts : List Font} (spans : List Span) {K D S : ℕ} (frame : Frame fo
       }
 
 -- ---- after the last span
-
-advance-terms : {fonts : List Font} {spans : List Span} {K D S from H : ℕ} {ks : List Cell} {cs : List Cluster} {qs : List ExactCluster} → Lined fonts spans K D S from H ks cs qs
-    → Terms D S 2 (rounded .advance) (exact .advance) cs qs (sumOf (λ k. k .a) ks) (sumOf (λ k. k .e) ks) (length ks)
-advance-terms Lined.none = Terms.none
-advance-terms (Lined.more {k = k} {ks = ks} b l) =
-    Terms.more (k .a + sumOf (λ k. k .a) ks) (k .e + sumOf (λ k. k .e) ks) (b .advance) (advance-terms l) (le-refl (k .a + sumOf (λ k. k .a) ks)) (le-refl (k .e + sumOf (λ k. k .e) ks))
 
 set-below : (f : Cell → ℕ) (ks : List Cell) → sumOf (set f) ks ≤ sumOf f ks
 set-below f [] = le-refl 0

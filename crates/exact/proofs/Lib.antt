@@ -8,8 +8,10 @@ pub mod Places
 pub mod Adjusted
 pub mod Factor
 pub mod Lengths
+pub mod Summed
 pub mod Shifts
 pub mod Positions
+pub mod Numbers
 pub mod Accepted
 pub mod Total
 pub mod Groups

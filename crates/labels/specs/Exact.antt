@@ -10,6 +10,7 @@ use lib.Ieee.{Float}
 use lib.Ieee.Scale.{finite as isFinite}
 use Rattle.rounding.specs.Fraction.{Frac, 0ᵠ, _+ᵠ_, _-ᵠ_, _·ᵠ_, _/ᵠ_, negᵠ, absᵠ, ltᵠ, leᵠ, valueOf}
 use Rattle.labels.specs.Outcome.{Outcome, refused, given}
+use Rattle.labels.specs.Lists.{any}
 use Rattle.labels.specs.Single.{+0}
 use Rattle.labels.specs.Job.{Job, Chunk, Span, Glyph, Font, spansOf, spanAt, hasLength, adjustSpacing}
 use Rattle.labels.specs.Utf8.{characters}
@@ -117,9 +118,13 @@ sizeTotal job offset c cs =
     foldl (λ (t : Frac) (s : Span). t +ᵠ sizeOf (s .length))
     (foldl (λ (t : Frac) (q : ExactCluster). t +ᵠ clusterSizes job offset c (q .group)) 0ᵠ cs) (spansOf c)
 
--- (g + 3) × T ÷ 2 ^ k
-unfoldable pub allowed : ℕ → Job → ℕ → Chunk → List ExactCluster → Frac
-allowed k job offset c cs = pos (glyphTotal cs + 3) ·ᵠ sizeTotal job offset c cs /ᵠ (2 ^ k)
+-- 20 in a chunk in which no span has a text length, 18 in any other
+abbrev pub sharpness : Chunk → ℕ
+sharpness c = cond (any hasLength (spansOf c)) 18 20
+
+-- (g + 3) × T ÷ 2 ^ sharpness
+unfoldable pub allowed : Job → ℕ → Chunk → List ExactCluster → Frac
+allowed job offset c cs = pos (glyphTotal cs + 3) ·ᵠ sizeTotal job offset c cs /ᵠ (2 ^ sharpness c)
 
 -- ---- demand 3
 
@@ -142,7 +147,7 @@ unfoldable pub NearChunk : Job → ℕ → Chunk → Outcome (List Glyph) → Ch
 NearChunk job offset c (refused n) row = ⊥
 NearChunk job offset c (given gs) row =
     let cs = formedExactly job c gs in
-    AllPairs (Near (allowed 18 job offset c cs)) (row .clusters) (layoutExactly job offset c cs)
+    AllPairs (Near (allowed job offset c cs)) (row .clusters) (layoutExactly job offset c cs)
 
 -- as many chunks, each near
 unfoldable pub NearChunks : Job → ℕ → List Chunk → List ChunkRow → Type 0

@@ -1,0 +1,76 @@
+-- The constants of the distance: what is behind step 6, in a chunk with a text length and in one without, and how sharp that lets step 7 be.
+-- Assumes nothing.
+use Prim.Native.Nat.{ℕ, _+_, _*_, _^_, _≤_}
+use native.Mathlib.Nat.{le-trans, mul-le-mul-left, mul-le-mul-right}
+use native.Mathlib.Omega.{arith}
+use lib.Dec.{lit≤}
+use Rattle.exact.proofs.Positions.{offsetError, reachMass}
+
+-- n clusters of g glyphs, in a chunk of s spans. T has the mass H + X: H of the clusters with their spacing and of the text lengths, X of the shifts
+pub record Sizes (S z g n s H X : ℕ) : Type 0 where
+  pub large : 2 ^ 50 * z ≤ S
+  pub glyphs : g ≤ 1024
+  pub clusters : n ≤ g
+  pub spans : s ≤ 32
+  pub total : H + X ≤ (g + 4 * n + s) * (2 ^ 28 * z)
+
+-- Behind step 6 all advances together have the mass B and the error E, and a length spacing has Y and 56 Y: then step 7 places each cluster within
+-- (g + 3) × T ÷ 2 ^ k
+pub record Numbers (g n H X Y B E k : ℕ) : Type 0 where
+  pub advances : E + 9 * (g * B) ≤ 2 ^ 24 * B
+  pub least : H + X ≤ reachMass B X Y
+  pub most : reachMass B X Y ≤ 4 * (H + X)
+  pub sharp : 2 ^ 18 ≤ 2 ^ k
+  pub distance : offsetError B E g X (9 * (n * X)) Y (56 * Y) * 2 ^ k ≤ 2 ^ 27 * ((g + 3) * (H + X))
+
+module _ {S z g n s H X : ℕ} (m : Sizes S z g n s H X) where
+  -- ---- the two kinds of chunks
+
+  -- with a text length the error is at most (485 g + 1,180) H + (90 g + 207) X, and 512 (g + 3) (H + X) is allowed
+  pub length-numbers : Numbers g n H X H (3 * H) ((56 * g + 46) * H) 18
+  length-numbers =
+      record {
+        advances = omega (arith, mul-le-mul-right H (m .glyphs));
+        least = omega arith;
+        most = omega arith;
+        sharp = lit≤ tt;
+        distance = omega (arith, mul-le-mul-right X (m .clusters));
+      }
+
+  -- without one it is at most (108 g + 355) H + (90 g + 207) X, and 128 (g + 3) (H + X) is allowed
+  pub plain-numbers : Numbers g n H X 0 H ((9 * g + 37) * H) 20
+  plain-numbers =
+      record {
+        advances = omega (arith, mul-le-mul-right H (m .glyphs));
+        least = omega arith;
+        most = omega arith;
+        sharp = lit≤ tt;
+        distance = omega (arith, mul-le-mul-right X (m .clusters));
+      }
+
+  -- ---- there is room for all sums
+
+  few : g + 4 * n + s ≤ 5152
+  few = omega (arith, m .glyphs, m .clusters, m .spans)
+
+  far : H + X ≤ 5152 * (2 ^ 28 * z)
+  far = le-trans (m .total) (mul-le-mul-right (2 ^ 28 * z) few)
+
+  pub H-small : H ≤ 2 ^ 48 * z
+  H-small = omega (arith, far)
+
+  pub shifts-fit : X ≤ S
+  shifts-fit = omega (arith, far, m .large)
+
+  module _ {Y B E k : ℕ} (nums : Numbers g n H X Y B E k) where
+    pub fits : 6 * reachMass B X Y ≤ S
+    fits = go (reachMass B X Y) (H + X) (nums .most) far
+      where
+        go : (r t : ℕ) → r ≤ 4 * t → t ≤ 5152 * (2 ^ 28 * z) → 6 * r ≤ S
+        go r t h f = omega (arith, m .large)
+
+    pub room : offsetError B E g X (9 * (n * X)) Y (56 * Y) ≤ 2 ^ 24 * reachMass B X Y
+    room = go (offsetError B E g X (9 * (n * X)) Y (56 * Y)) (H + X) (reachMass B X Y) (nums .distance) (nums .least)
+      where
+        go : (e t r : ℕ) → e * 2 ^ k ≤ 2 ^ 27 * ((g + 3) * t) → t ≤ r → e ≤ 2 ^ 24 * r
+        go e t r d h = omega (arith, mul-le-mul-left e (nums .sharp), mul-le-mul-right t (m .glyphs))

@@ -1,0 +1,87 @@
+-- What step 6 leaves to step 7, in a chunk with a text length and in one without. Assumes nothing.
+use Prim.Native.Nat.{ℕ, _+_, _*_, _≤_}
+use mathlib.Core.Path.{_≡_, refl, ap, subst, sym}
+use mathlib.Core.Bool.{Bool, true, false, _||_}
+use mathlib.Core.List.{List, [], _∷_, map, foldl}
+use native.Mathlib.Nat.{le-trans, le-of-eq, mul-le-mul-right, mul-le-mul-left}
+use native.Mathlib.Omega.{arith}
+use lib.ListN.{length, length-map}
+use Rattle.laws.proofs.All.{All}
+use Rattle.labels.specs.declared.Font.{Font}
+use Rattle.labels.specs.declared.Span.{Span}
+use Rattle.labels.specs.declared.Cluster.{Cluster}
+use Rattle.labels.specs.Outcome.{given}
+use Rattle.labels.specs.Lists.{any}
+use Rattle.labels.specs.Job.{hasLength}
+use Rattle.labels.specs.Cluster.{adjustSpan}
+use Rattle.labels.specs.Exact.{ExactCluster, exact, adjustSpanExactly, AllPairs}
+use Rattle.exact.proofs.Formed.{Frame}
+use Rattle.exact.proofs.Spaced.{Spaced, wordPart}
+use Rattle.exact.proofs.Adjusted.{Cell, sumOf, Lined}
+use Rattle.exact.proofs.Lengths.{Adjusted, cellOf, lined-first, bodiesMass, totals}
+
+-- the advances have at most the mass B and the error E together, and a length spacing Y and 56 Y
+pub record Summed (fonts : List Font) (spans : List Span) (K D S g Y B E : ℕ) (is : List ℕ) (cs : List Cluster) (qs : List ExactCluster) : Type 0 where
+  pub from : ℕ
+  pub cells : List Cell
+  pub lined : Lined fonts spans K D S from Y cells cs qs
+  pub indexes : map (exact .index) qs ≡ is
+  pub mass : sumOf (λ k. k .a) cells ≤ B
+  pub error : sumOf (λ k. k .e) cells ≤ E
+  pub few : length cells ≤ g
+
+-- ---- with a text length
+
+pub adjusted-summed : {fonts : List Font} {spans : List Span} {K D S g from H B L : ℕ} {is : List ℕ} {cs : List Cluster} {qs : List ExactCluster} → Adjusted fonts spans K D S g from H B L is cs qs → B + L ≤ H
+    → Summed fonts spans K D S g H (3 * H) ((56 * g + 46) * H) is cs qs
+adjusted-summed {g = g} {from = from} a h =
+    record {
+      from = from;
+      cells = a .cells;
+      lined = a .lined;
+      indexes = a .indexes;
+      mass = le-trans (totals a .0) (mul-le-mul-left 3 h);
+      error = le-trans (totals a .1) (mul-le-mul-left (56 * g + 46) h);
+      few = a .few;
+    }
+
+-- ---- without one: step 6 leaves both lists as they are
+
+neither : (b c : Bool) → (b || c) ≡ false → (b ≡ false) × (c ≡ false)
+neither true c e = let z : _≡_ {A = ℕ} 0 1 = cc in absurd (omega arith)
+neither false c e = (refl, e)
+
+pub plain-floats : (ss : List Span) → any hasLength ss ≡ false → (cs : List Cluster) → foldl adjustSpan (given cs) ss ≡ given cs
+unfolding any adjustSpan
+plain-floats [] e cs = refl
+plain-floats (s ∷ ss) e cs = let f = neither (hasLength s) (any hasLength ss) e in rw (f .0) (plain-floats ss (f .1) cs)
+
+pub plain-fractions : (ss : List Span) → any hasLength ss ≡ false → (qs : List ExactCluster) → foldl adjustSpanExactly qs ss ≡ qs
+unfolding any adjustSpanExactly
+plain-fractions [] e qs = refl
+plain-fractions (s ∷ ss) e qs = let f = neither (hasLength s) (any hasLength ss) e in rw (f .0) (plain-fractions ss (f .1) qs)
+
+module _ {fonts : List Font} (spans : List Span) {K D S : ℕ} (frame : Frame fonts K D S) where
+  masses : (qs : List ExactCluster) → sumOf (λ k. k .a) (map (cellOf spans frame) qs) ≡ bodiesMass spans frame qs
+  masses [] = refl
+  masses (q ∷ qs) = ap (λ (n : ℕ). wordPart fonts spans K D (q .group) + n) (masses qs)
+
+  errors : {g : ℕ} {qs : List ExactCluster} → All (λ q. length (q .group .glyphs) ≤ g) qs → sumOf (λ k. k .e) (map (cellOf spans frame) qs) ≤ (9 * g + 37) * bodiesMass spans frame qs
+  errors All.none = omega arith
+  errors {g} (All.more {x = q} p ps) = go (length (q .group .glyphs)) (wordPart fonts spans K D (q .group)) _ _ p (errors ps)
+    where
+      go : (m b es bs : ℕ) → m ≤ g → es ≤ (9 * g + 37) * bs → (9 * m + 37) * b + es ≤ (9 * g + 37) * (b + bs)
+      go m b es bs h k = omega (arith, mul-le-mul-right b h)
+
+  pub plain-summed : {g B : ℕ} {cs : List Cluster} {qs : List ExactCluster} → AllPairs (Spaced spans frame) cs qs → All (λ q. length (q .group .glyphs) ≤ g) qs → length qs ≤ g → bodiesMass spans frame qs ≤ B
+      → Summed fonts spans K D S g 0 B ((9 * g + 37) * B) (map (exact .index) qs) cs qs
+  plain-summed {g} {qs = qs} ps counts few h =
+      record {
+        from = 0;
+        cells = map (cellOf spans frame) qs;
+        lined = lined-first spans frame ps;
+        indexes = refl;
+        mass = le-trans (le-of-eq (masses qs)) h;
+        error = le-trans (errors counts) (mul-le-mul-left (9 * g + 37) h);
+        few = subst (λ (n : ℕ). n ≤ g) (sym (length-map qs (cellOf spans frame))) few;
+      }
