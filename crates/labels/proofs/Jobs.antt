@@ -26,12 +26,16 @@ letterRow id index long = wideRow id index long 1280
 unfoldable pub floatList : List ℕ → List ℕ
 floatList xs = bytes 2 (length xs) ++ flatMap (bytes 4) xs
 
--- a span of size 16 with font 0 and no decoration: start, end, letter and word spacing, text length (flag, target, adjust), shifts, glyphs
-unfoldable pub spanRow : ℕ → ℕ → ℕ → ℕ → ℕ → ℕ → ℕ → List (List ℕ) → List (List ℕ) → List ℕ
-spanRow from to letter word fixed target adjust shifts glyphs =
-    bytes 2 from ++ bytes 2 to ++ bytes 1 0 ++ bytes 4 0x41800000 ++ bytes 4 letter ++ bytes 4 word ++ bytes 1 fixed ++ bytes 4 target
+-- a span of size 16 with no decoration: font, start, end, letter and word spacing, text length (flag, target, adjust), shifts, glyphs
+unfoldable pub fontSpan : ℕ → ℕ → ℕ → ℕ → ℕ → ℕ → ℕ → ℕ → List (List ℕ) → List (List ℕ) → List ℕ
+fontSpan font from to letter word fixed target adjust shifts glyphs =
+    bytes 2 from ++ bytes 2 to ++ bytes 1 font ++ bytes 4 0x41800000 ++ bytes 4 letter ++ bytes 4 word ++ bytes 1 fixed ++ bytes 4 target
     ++ bytes 1 adjust ++ bytes 3 0 ++ bytes 1 (length shifts) ++ flatMap (λ (s : List ℕ). s) shifts
     ++ bytes 2 (length glyphs) ++ flatMap (λ (g : List ℕ). g) glyphs
+
+-- with font 0
+unfoldable pub spanRow : ℕ → ℕ → ℕ → ℕ → ℕ → ℕ → ℕ → List (List ℕ) → List (List ℕ) → List ℕ
+spanRow from to letter word fixed target adjust shifts glyphs = fontSpan 0 from to letter word fixed target adjust shifts glyphs
 
 -- with no spacing, no text length and no shift
 unfoldable pub plainSpan : ℕ → ℕ → List (List ℕ) → List ℕ
@@ -48,12 +52,16 @@ chunkRow anchor text spans =
 unfoldable pub recordRow : List ℕ → List ℕ
 recordRow body = bytes 4 (length body) ++ body
 
--- a job: writing mode, font rows, dx and rotate lists, chunks
-unfoldable pub jobRow : ℕ → List (List ℕ) → List ℕ → List ℕ → List (List ℕ) → List ℕ
-jobRow mode fonts dx rotate chunks =
+-- a job: writing mode, font rows, dx, dy and rotate lists, chunks
+unfoldable pub listsJob : ℕ → List (List ℕ) → List ℕ → List ℕ → List ℕ → List (List ℕ) → List ℕ
+listsJob mode fonts dx dy rotate chunks =
     recordRow
-    (bytes 1 1 ++ bytes 1 mode ++ bytes 1 (length fonts) ++ flatMap (λ (f : List ℕ). f) fonts ++ floatList dx ++ floatList [] ++ floatList rotate
+    (bytes 1 1 ++ bytes 1 mode ++ bytes 1 (length fonts) ++ flatMap (λ (f : List ℕ). f) fonts ++ floatList dx ++ floatList dy ++ floatList rotate
     ++ bytes 1 (length chunks) ++ flatMap (λ (c : List ℕ). c) chunks)
+
+-- with no dy
+unfoldable pub jobRow : ℕ → List (List ℕ) → List ℕ → List ℕ → List (List ℕ) → List ℕ
+jobRow mode fonts dx rotate chunks = listsJob mode fonts dx [] rotate chunks
 
 -- left to right, with the label's font
 unfoldable pub plainJob : List ℕ → List ℕ → List (List ℕ) → List ℕ
@@ -91,16 +99,30 @@ labelSpan v =
     ++ glyphRow 0 1 1 0 0 512 (v .script) 0
     ++ glyphRow 0 2 1 0 0 1280 (v .script) 0
 
--- text "A B", anchor end
+-- text "A B", with some anchor
+unfoldable pub labelAt : ℕ → Variant → List ℕ
+labelAt anchor v = jobRow (v .mode) (fontRow ∷ []) (v .dx) [] (chunkRow anchor (65 ∷ 32 ∷ 66 ∷ []) (labelSpan v ∷ []) ∷ [])
+
+-- the label's own: end
 unfoldable pub labelJob : Variant → List ℕ
-labelJob v = jobRow (v .mode) (fontRow ∷ []) (v .dx) [] (chunkRow 2 (65 ∷ 32 ∷ 66 ∷ []) (labelSpan v ∷ []) ∷ [])
+labelJob v = labelAt 2 v
 
 -- left to right, A sideways, no text length, no alignment, no shift, no dx: tag Latn and letter spacing 1 in the label itself
 unfoldable pub plainVariant : ℕ → ℕ → Variant
 plainVariant script letter =
     record { mode = 0; upright = 0; script = script; letter = letter; fixed = 0; target = 0; adjust = 0; alignment = 0; shifts = []; dx = [] }
 
+-- the label with a text length (flag, value, adjust) and a dx list
+unfoldable pub lengthVariant : ℕ → ℕ → ℕ → List ℕ → Variant
+lengthVariant fixed target adjust dx =
+    record { mode = 0; upright = 0; script = tag "Latn"; letter = 0x3f800000; fixed = fixed; target = target; adjust = adjust; alignment = 0; shifts = []; dx = dx }
+
+-- ---- four letters of advance 10 brought to 50, anchored at their start: their exact offsets are thirds
+unfoldable pub thirds : List ℕ
+thirds =
+    plainJob [] [] (chunkRow 0 (65 ∷ 66 ∷ 67 ∷ 68 ∷ []) (spanRow 0 4 0 0 1 0x42480000 0 [] (letterRow 1 0 1 ∷ letterRow 2 1 1 ∷ letterRow 3 2 1 ∷ letterRow 4 3 1 ∷ []) ∷ []) ∷ [])
+
 -- ---- opens all of these, for computed tests
 unfoldable pub built : Unit {0}
-unfolding fontRow glyphRow wideRow letterRow floatList spanRow plainSpan chunkRow recordRow jobRow plainJob labelSpan labelJob plainVariant
+unfolding fontRow glyphRow wideRow letterRow floatList fontSpan spanRow plainSpan chunkRow recordRow listsJob jobRow plainJob labelSpan labelAt labelJob plainVariant lengthVariant thirds
 built = tt

@@ -4,6 +4,7 @@ pub mod Jobs
 pub mod Label
 pub mod Traps
 pub mod Refusals
+pub mod Asked
 pub mod NearLabel
 pub mod Constants
 pub mod Loops
