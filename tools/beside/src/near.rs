@@ -11,17 +11,22 @@ use crate::cases::{self, Case};
 use crate::exact::{exact, Exact};
 use crate::whole::Whole;
 
+/// An offset may be (g + 3) T / 2^PLAIN from the exact one in a chunk in which no span has a text length, / 2^OTHER in any other.
+const PLAIN: u32 = 20;
+const OTHER: u32 = 18;
+
 #[derive(Default)]
 struct Found {
     jobs: usize,
-    clusters: usize,
     plain: Worst,
-    adjusted: Worst,
+    other: Worst,
 }
 
-/// The largest share of the bound, and the job that has it.
+/// Chunks of one kind: how many, with how many clusters, the largest share of what is allowed, and the job that has it.
 #[derive(Default)]
 struct Worst {
+    chunks: usize,
+    clusters: usize,
     share: f64,
     job: String,
 }
@@ -31,14 +36,9 @@ pub fn print(seed: u64, count: usize) -> Result<(), Box<dyn Error>> {
     for case in cases::all(seed, count).filter(|case| case.outcome.is_ok()) {
         found.add(&case)?;
     }
-    println!("accepted jobs {}, clusters {}", found.jobs, found.clusters);
-    for (kind, worst) in [("without", &found.plain), ("with", &found.adjusted)] {
-        println!(
-            "chunks {kind} a text length: at most {:.6} of (g + 3) T / 2^18",
-            worst.share
-        );
-        println!("  {}", worst.job);
-    }
+    println!("accepted jobs {}", found.jobs);
+    found.plain.print("without", PLAIN);
+    found.other.print("with", OTHER);
     Ok(())
 }
 
@@ -48,21 +48,15 @@ impl Found {
         let rows = oracle::rust::rows(&job).expect("accepted");
         let mut characters = 0;
         for (chunk, row) in job.chunks.iter().zip(&rows) {
-            let share = share(&job, chunk, characters, row)
-                .map_err(|e| format!("{e}: {}", hex(&case.job)))?;
-            let adjusted = chunk.spans.iter().any(|span| span.length_flag == 1);
-            let worst = if adjusted {
-                &mut self.adjusted
+            let plain = chunk.spans.iter().all(|span| span.length_flag == 0);
+            let (kind, sharpness) = if plain {
+                (&mut self.plain, PLAIN)
             } else {
-                &mut self.plain
+                (&mut self.other, OTHER)
             };
-            if share > worst.share {
-                *worst = Worst {
-                    share,
-                    job: hex(&case.job),
-                };
-            }
-            self.clusters += row.clusters.len();
+            let share = share(&job, chunk, characters, row, sharpness)
+                .map_err(|e| format!("{e}: {}", hex(&case.job)))?;
+            kind.add(row, share, &case.job);
             characters += std::str::from_utf8(&chunk.text)
                 .expect("accepted")
                 .chars()
@@ -73,12 +67,32 @@ impl Found {
     }
 }
 
+impl Worst {
+    fn add(&mut self, row: &ChunkRow, share: f64, job: &[u8]) {
+        self.chunks += 1;
+        self.clusters += row.clusters.len();
+        if share > self.share {
+            self.share = share;
+            self.job = hex(job);
+        }
+    }
+
+    fn print(&self, kind: &str, sharpness: u32) {
+        println!(
+            "{} chunks {kind} a text length, {} clusters: at most {:.6} of (g + 3) T / 2^{sharpness}",
+            self.chunks, self.clusters, self.share
+        );
+        println!("  {}", self.job);
+    }
+}
+
 /// The largest share in a chunk; a chunk that breaks demand 3 is an error.
 fn share(
     job: &Job,
     chunk: &oracle::job::Chunk,
     characters: usize,
     row: &ChunkRow,
+    sharpness: u32,
 ) -> Result<f64, String> {
     let collapsed: Vec<bool> = row
         .clusters
@@ -103,18 +117,18 @@ fn share(
         }
         most = most.max(exact.distance(i, cluster.shift.0));
     }
-    of_bound(most, &exact)
+    of_allowed(most, &exact, sharpness)
 }
 
-fn of_bound(distance: Whole, exact: &Exact) -> Result<f64, String> {
-    let distance = distance.shifted(18);
-    let bound = exact.sizes.times(exact.glyphs as i64 + 3);
-    if distance > bound {
+fn of_allowed(distance: Whole, exact: &Exact, sharpness: u32) -> Result<f64, String> {
+    let distance = distance.shifted(sharpness);
+    let allowed = exact.sizes.times(exact.glyphs as i64 + 3);
+    if distance > allowed {
         return Err("further than demand 3 allows".into());
     }
     Ok(if distance == Whole::ZERO {
         0.0
     } else {
-        distance.as_f64() / bound.as_f64()
+        distance.as_f64() / allowed.as_f64()
     })
 }
