@@ -360,3 +360,37 @@ fn sizes(
         sum + units.pattern(span.text_length).size()
     })
 }
+
+/// The numbers of `crates/labels/proofs/Asked.antt`, which the prover computes from the definitions.
+#[cfg(test)]
+mod tests {
+    use super::*;
+    use oracle::label::label;
+
+    fn asked(job: &Job, glyphs: usize, sizes: f32, offsets: [f32; 3]) {
+        let exact = exact(job, &job.chunks[0], 0, &[false; 3]).unwrap();
+        assert_eq!(exact.glyphs, glyphs);
+        assert!(exact.sizes == exact.units.float(sizes));
+        assert!(exact.offsets == offsets.map(|x| exact.units.float(x)));
+    }
+
+    #[test]
+    fn the_label() {
+        asked(&label(), 3, 33.0, [-28.0, -17.0, -10.0]);
+    }
+
+    #[test]
+    fn all_that_is_counted() {
+        let floats = |list: &[f32]| list.iter().map(|x| x.to_bits()).collect();
+        let mut job = label();
+        (job.mode, job.chunks[0].anchor) = (1, 1);
+        (job.dx, job.dy) = (floats(&[3.0, -4.0]), floats(&[0.0, -5.0, 6.0]));
+        let span = &mut job.chunks[0].spans[0];
+        span.letter_spacing = (-1f32).to_bits();
+        (span.length_flag, span.text_length) = (1, 54f32.to_bits());
+        let mut second = span.glyphs[0].clone();
+        second.width = -256;
+        span.glyphs.insert(1, second);
+        asked(&job, 4, 107.0, [-27.5, -7.5, 17.5]);
+    }
+}

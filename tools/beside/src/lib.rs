@@ -1,6 +1,7 @@
 //! Jobs that reach much, the library's call, and what sets both sides beside each other.
 
 pub mod cases;
+pub mod climb;
 pub mod compare;
 pub mod damage;
 pub mod encode;

@@ -10,7 +10,7 @@ use std::{env, fs};
 
 use beside::cases::{self, Case};
 use beside::compare::{Lender, Tally};
-use beside::{near, reach, store, tell};
+use beside::{climb, near, reach, store, tell};
 
 const USAGE: &str = "\
 beside run SEED COUNT       the library beside the Rust, on jobs of every kind
@@ -19,7 +19,8 @@ beside readings SEED COUNT  after how many of them each wrong reading is told ap
 beside transforms SEED COUNT
                             the library's rows composed to transforms, beside the Rust's own
 beside tables SEED COUNT    the same where tags and orientations are those of the Unicode tables
-beside near SEED COUNT      how far answers are from the exact layout, as a share of demand 3's bound
+beside near SEED COUNT      how far answers are from the exact layout, as a share of what demand 3 allows
+beside climb SEED COUNT     the same, searched for by that many changes of jobs
 beside store COUNT DIR      jobs for crates/replay, chosen for what they show, with the Rust's answers
 beside replay DIR           the library beside the answers of such jobs
 beside answer FILE LENT     a job's number and answer, in hex
@@ -37,6 +38,7 @@ fn main() -> Done {
         ["readings", seed, count] => tell::print(seed.parse()?, count.parse()?),
         ["transforms" | "tables", _, _] => Ok(composed::run(&words)?),
         ["near", seed, count] => near::print(seed.parse()?, count.parse()?),
+        ["climb", seed, count] => climb::print(seed.parse()?, count.parse()?),
         ["store", count, dir] => store::write(count.parse()?, Path::new(dir)),
         ["replay", dir] => replay(Path::new(dir)),
         ["answer", file, lent] => answer_file(file, lent.parse()?),

@@ -5,95 +5,133 @@ use std::error::Error;
 use oracle::answer::{ChunkRow, COLLAPSED};
 use oracle::bytes::hex;
 use oracle::decode::decode;
-use oracle::job::Job;
+use oracle::job::{Chunk, Job};
 
-use crate::cases::{self, Case};
+use crate::cases;
 use crate::exact::{exact, Exact};
 use crate::whole::Whole;
 
-/// An offset may be (g + 3) T / 2^PLAIN from the exact one in a chunk in which no span has a text length, / 2^OTHER in any other.
-const PLAIN: u32 = 20;
-const OTHER: u32 = 18;
-
-#[derive(Default)]
-struct Found {
-    jobs: usize,
-    plain: Worst,
-    other: Worst,
+/// What is allowed depends on whether a span of the chunk has a text length.
+#[derive(Clone, Copy, PartialEq)]
+pub enum Kind {
+    Plain,
+    Length,
 }
 
-/// Chunks of one kind: how many, with how many clusters, the largest share of what is allowed, and the job that has it.
-#[derive(Default)]
+impl Kind {
+    fn of(chunk: &Chunk) -> Kind {
+        if chunk.spans.iter().any(|span| span.length_flag == 1) {
+            Kind::Length
+        } else {
+            Kind::Plain
+        }
+    }
+
+    /// An offset may be (g + 3) T / 2^sharpness from the exact one.
+    fn sharpness(self) -> u32 {
+        match self {
+            Kind::Plain => 20,
+            Kind::Length => 18,
+        }
+    }
+
+    /// The chunks' name, and what is allowed in them.
+    pub fn words(self) -> (&'static str, &'static str) {
+        match self {
+            Kind::Plain => ("chunks without a text length", "(g + 3) T / 2^20"),
+            Kind::Length => ("chunks with a text length", "(g + 3) T / 2^18"),
+        }
+    }
+}
+
+/// A chunk, and the largest share of what is allowed in it.
+pub struct Share {
+    pub kind: Kind,
+    pub clusters: usize,
+    pub share: f64,
+}
+
+/// The chunks of an accepted job; one that breaks demand 3 is an error.
+pub fn shares(job: &[u8]) -> Result<Vec<Share>, String> {
+    let decoded = decode(job).expect("accepted");
+    let rows = oracle::rust::rows(&decoded).expect("accepted");
+    let mut characters = 0;
+    let mut shares = vec![];
+    for (chunk, row) in decoded.chunks.iter().zip(&rows) {
+        let share =
+            share(&decoded, chunk, characters, row).map_err(|e| format!("{e}: {}", hex(job)))?;
+        shares.push(Share {
+            kind: Kind::of(chunk),
+            clusters: row.clusters.len(),
+            share,
+        });
+        characters += std::str::from_utf8(&chunk.text)
+            .expect("accepted")
+            .chars()
+            .count();
+    }
+    Ok(shares)
+}
+
+/// All chunks of one kind, the largest share, and the job that has it.
 struct Worst {
+    kind: Kind,
     chunks: usize,
     clusters: usize,
     share: f64,
     job: String,
 }
 
-pub fn print(seed: u64, count: usize) -> Result<(), Box<dyn Error>> {
-    let mut found = Found::default();
-    for case in cases::all(seed, count).filter(|case| case.outcome.is_ok()) {
-        found.add(&case)?;
-    }
-    println!("accepted jobs {}", found.jobs);
-    found.plain.print("without", PLAIN);
-    found.other.print("with", OTHER);
-    Ok(())
-}
-
-impl Found {
-    fn add(&mut self, case: &Case) -> Result<(), String> {
-        let job = decode(&case.job).expect("accepted");
-        let rows = oracle::rust::rows(&job).expect("accepted");
-        let mut characters = 0;
-        for (chunk, row) in job.chunks.iter().zip(&rows) {
-            let plain = chunk.spans.iter().all(|span| span.length_flag == 0);
-            let (kind, sharpness) = if plain {
-                (&mut self.plain, PLAIN)
-            } else {
-                (&mut self.other, OTHER)
-            };
-            let share = share(&job, chunk, characters, row, sharpness)
-                .map_err(|e| format!("{e}: {}", hex(&case.job)))?;
-            kind.add(row, share, &case.job);
-            characters += std::str::from_utf8(&chunk.text)
-                .expect("accepted")
-                .chars()
-                .count();
-        }
-        self.jobs += 1;
-        Ok(())
-    }
-}
-
 impl Worst {
-    fn add(&mut self, row: &ChunkRow, share: f64, job: &[u8]) {
+    fn new(kind: Kind) -> Worst {
+        Worst {
+            kind,
+            chunks: 0,
+            clusters: 0,
+            share: 0.0,
+            job: String::new(),
+        }
+    }
+
+    fn add(&mut self, chunk: &Share, job: &[u8]) {
         self.chunks += 1;
-        self.clusters += row.clusters.len();
-        if share > self.share {
-            self.share = share;
+        self.clusters += chunk.clusters;
+        if chunk.share > self.share {
+            self.share = chunk.share;
             self.job = hex(job);
         }
     }
 
-    fn print(&self, kind: &str, sharpness: u32) {
+    fn print(&self) {
+        let (chunks, allowed) = self.kind.words();
         println!(
-            "{} chunks {kind} a text length, {} clusters: at most {:.6} of (g + 3) T / 2^{sharpness}",
+            "{} {chunks}, {} clusters: the largest distance is {:.6} of {allowed}",
             self.chunks, self.clusters, self.share
         );
         println!("  {}", self.job);
     }
 }
 
-/// The largest share in a chunk; a chunk that breaks demand 3 is an error.
-fn share(
-    job: &Job,
-    chunk: &oracle::job::Chunk,
-    characters: usize,
-    row: &ChunkRow,
-    sharpness: u32,
-) -> Result<f64, String> {
+pub fn print(seed: u64, count: usize) -> Result<(), Box<dyn Error>> {
+    let mut jobs = 0;
+    let mut plain = Worst::new(Kind::Plain);
+    let mut length = Worst::new(Kind::Length);
+    for case in cases::all(seed, count).filter(|case| case.outcome.is_ok()) {
+        jobs += 1;
+        for chunk in shares(&case.job)? {
+            match chunk.kind {
+                Kind::Plain => plain.add(&chunk, &case.job),
+                Kind::Length => length.add(&chunk, &case.job),
+            }
+        }
+    }
+    println!("accepted jobs {jobs}");
+    plain.print();
+    length.print();
+    Ok(())
+}
+
+fn share(job: &Job, chunk: &Chunk, characters: usize, row: &ChunkRow) -> Result<f64, String> {
     let collapsed: Vec<bool> = row
         .clusters
         .iter()
@@ -117,7 +155,7 @@ fn share(
         }
         most = most.max(exact.distance(i, cluster.shift.0));
     }
-    of_allowed(most, &exact, sharpness)
+    of_allowed(most, &exact, Kind::of(chunk).sharpness())
 }
 
 fn of_allowed(distance: Whole, exact: &Exact, sharpness: u32) -> Result<f64, String> {
