@@ -86,7 +86,7 @@ seen = tt
 
 -- ---- the label: 3 glyphs of advances 10, 4 and 10, with letter spacing 1 and word spacing 2 for each
 
--- with one more span, on a text that is as long
+-- with one more span, on some text
 withSpan : List ℕ → List ℕ → List ℕ
 withSpan text span = plainJob [] [] (chunkRow 2 text (labelSpan (lengthVariant 0 0 0 []) ∷ span ∷ []) ∷ [])
 

@@ -118,7 +118,7 @@ sizeTotal job offset c cs =
     foldl (λ (t : Frac) (s : Span). t +ᵠ sizeOf (s .length))
     (foldl (λ (t : Frac) (q : ExactCluster). t +ᵠ clusterSizes job offset c (q .group)) 0ᵠ cs) (spansOf c)
 
--- 20 in a chunk in which no span has a text length, 18 in any other
+-- the power of 2 that divides the distance: 20 in a chunk in which no span has a text length, 18 in any other
 abbrev pub sharpness : Chunk → ℕ
 sharpness c = cond (any hasLength (spansOf c)) 18 20
 
