@@ -84,9 +84,10 @@ enum layout_number {
  *
  * Lengths are in the label's units, y downwards. The span that covers the byte index gives font size, colour and origin.
  *
- * Shift x is finite, and proved to be at most (g + 3) T / 2^20 from where the same rules put the cluster with nothing rounded, in a chunk in
- * which no span has a text length, and at most (g + 3) T / 2^18 in any other: g glyphs in its clusters, and T the sizes of their advances,
- * of letter spacing, word spacing, dx and dy for each cluster, and of the text lengths. At g = 40 and T = 1000 that is 0.041, and 0.164.
+ * Shift x is finite, and proved to be at most (g + 3) T / 2^20 from where the same rules put the cluster with nothing rounded (but for the
+ * choice of which clusters collapse), in a chunk in which no span has a text length, and at most (g + 3) T / 2^18 in any other. There are g
+ * glyphs in the chunk's clusters, and T adds the sizes of their advances, of letter spacing, word spacing, dx and dy for each cluster, and of
+ * the text lengths. At g = 40 and T = 1000 that is 0.041, and 0.164.
  */
 #define LAYOUT_BYTE_INDEX_AT 0 /* u16: the place in the chunk's text */
 #define LAYOUT_FLAGS_AT 2      /* byte: the flags below */
