@@ -1,5 +1,5 @@
 -- Demand 3: of every job that is accepted, the answer's bytes hold as many chunks and clusters as the exact layout, with the same byte indexes and
--- collapse marks, and each offset is finite and within (g + 3) × T ÷ 2 ^ 18 of the exact one. Assumes nothing.
+-- collapse marks, and each offset is finite and within the distance allowed in its chunk of the exact one. Assumes nothing.
 use Prim.Native.Nat.{ℕ, _+_, _/_, _%_, _≤_, _<_}
 use mathlib.Core.Path.{_≡_, refl, sym, ap, _∙_, subst}
 use mathlib.Core.Bool.{Bool, true, false, cond}

@@ -6,7 +6,8 @@ use native.Mathlib.Omega.{arith}
 use lib.Dec.{lit≤}
 use Rattle.exact.proofs.Positions.{offsetError, reachMass}
 
--- n clusters of g glyphs, in a chunk of s spans. T has the mass H + X: H of the clusters with their spacing and of the text lengths, X of the shifts
+-- n clusters of g glyphs, in a chunk of s spans. T has the mass H + X: H of the clusters with their spacing and of the text lengths, X of the shifts.
+-- z is the mass of 1, and S the largest mass that there is room for
 pub record Sizes (S z g n s H X : ℕ) : Type 0 where
   pub large : 2 ^ 50 * z ≤ S
   pub glyphs : g ≤ 1024

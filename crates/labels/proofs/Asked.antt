@@ -11,10 +11,11 @@ use Rattle.labels.specs.Outcome.{Outcome, refused, given}
 use Rattle.labels.specs.Job.{Job, Chunk, Glyph}
 use Rattle.labels.specs.Check.{checked}
 use Rattle.labels.specs.Merge.{mergeGlyphs}
+use Rattle.labels.specs.Script.Tag.{tag}
 use Rattle.labels.specs.Exact.{ExactCluster, formedExactly, layoutExactly, glyphTotal, sizeTotal, allowed}
 use Rattle.labels.specs.Compute.{computed}
 use Rattle.labels.proofs.Seen.{whole, below, shown}
-use Rattle.labels.proofs.Jobs.{fontRow, wideRow, letterRow, fontSpan, spanRow, chunkRow, listsJob, plainJob, labelSpan, labelJob, lengthVariant, thirds, built}
+use Rattle.labels.proofs.Jobs.{fontRow, wideRow, letterRow, fontSpan, spanRow, chunkRow, listsJob, plainJob, labelSpan, labelJob, plainVariant, lengthVariant, thirds, built}
 
 -- ---- what is asked of a job's one chunk
 
@@ -99,6 +100,11 @@ unmoved = minus 28 ∷ minus 17 ∷ minus 10 ∷ []
 plain-label : map (λ (adjust : ℕ). compared (labelJob (lengthVariant 0 0 adjust [])) (asked 3 33 198 20 unmoved)) (0 ∷ 1 ∷ []) ≡ agreed ∷ agreed ∷ []
 unfolding computed built seen unmoved
 plain-label = refl
+
+-- letter spacing −11, which collapses the first two: their glyphs and advances count as before, 6 × 63 ÷ 2 ^ 20
+collapsed-label : compared (labelJob (plainVariant (tag "Latn") (below 11))) (asked 3 63 378 20 (minus 12 ∷ minus 12 ∷ minus 10 ∷ [])) ≡ agreed
+unfolding computed built seen
+collapsed-label = refl
 
 -- SpacingAndGlyphs to 48 moves no cluster and sets no length spacing: 6 × 81 ÷ 2 ^ 18 all the same
 scaled-label : compared (labelJob (lengthVariant 1 (whole 48) 1 [])) (asked 3 81 486 18 unmoved) ≡ agreed
