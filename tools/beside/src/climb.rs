@@ -16,9 +16,12 @@ const FIRST_OF: usize = 500;
 
 pub fn print(seed: u64, count: usize) -> Result<(), Box<dyn Error>> {
     for kind in [Kind::Plain, Kind::Length] {
-        let (chunks, allowed) = kind.words();
         let (share, job) = climbed(kind, seed, count / CLIMBS)?;
-        println!("{chunks}: the largest distance found is {share:.6} of {allowed}");
+        println!(
+            "{}: the largest distance found is {share:.6} of (g + 3) T / 2^{}",
+            kind.chunks(),
+            kind.sharpness()
+        );
         println!("  {}", hex(&job));
     }
     Ok(())

@@ -28,18 +28,17 @@ impl Kind {
     }
 
     /// An offset may be (g + 3) T / 2^sharpness from the exact one.
-    fn sharpness(self) -> u32 {
+    pub fn sharpness(self) -> u32 {
         match self {
             Kind::Plain => 20,
             Kind::Length => 18,
         }
     }
 
-    /// The chunks' name, and what is allowed in them.
-    pub fn words(self) -> (&'static str, &'static str) {
+    pub fn chunks(self) -> &'static str {
         match self {
-            Kind::Plain => ("chunks without a text length", "(g + 3) T / 2^20"),
-            Kind::Length => ("chunks with a text length", "(g + 3) T / 2^18"),
+            Kind::Plain => "chunks without a text length",
+            Kind::Length => "chunks with a text length",
         }
     }
 }
@@ -103,10 +102,13 @@ impl Worst {
     }
 
     fn print(&self) {
-        let (chunks, allowed) = self.kind.words();
         println!(
-            "{} {chunks}, {} clusters: the largest distance is {:.6} of {allowed}",
-            self.chunks, self.clusters, self.share
+            "{} {}, {} clusters: the largest distance is {:.6} of (g + 3) T / 2^{}",
+            self.chunks,
+            self.kind.chunks(),
+            self.clusters,
+            self.share,
+            self.kind.sharpness()
         );
         println!("  {}", self.job);
     }
