@@ -86,8 +86,8 @@ enum layout_number {
  *
  * Shift x is finite, and proved to be at most (g + 3) T / 2^20 from where the same rules put the cluster with nothing rounded (but for the
  * choice of which clusters collapse), in a chunk in which no span has a text length, and at most (g + 3) T / 2^18 in any other. There are g
- * glyphs in the chunk's clusters, and T adds the sizes of their advances, of letter spacing, word spacing, dx and dy for each cluster, and of
- * the text lengths. At g = 40 and T = 1000 that is 0.041, and 0.164.
+ * glyphs in the chunk's clusters, collapsed or not, and T adds the sizes of their advances, of letter spacing, word spacing, dx and dy for
+ * each cluster, and of the text lengths. At g = 40 and T = 1000 that is 0.041, and 0.164, rounded.
  */
 #define LAYOUT_BYTE_INDEX_AT 0 /* u16: the place in the chunk's text */
 #define LAYOUT_FLAGS_AT 2      /* byte: the flags below */
