@@ -45,10 +45,10 @@ fn next_letter_spaced(s: &[u8], spans: &[usize], left: usize, c: Cluster) -> Clu
     ensures { λ r. ⌜ r ≡ nextLetterSpaced rounded (spansIn (now (s .entry)) (now (spans .entry))) left c ⌝ }
 {
     let letter = spacing_in(s, spans, c.span, Spacing::Letter);
-    if !script_supports_letter_spacing(c.tag) {
-        return c;
+    if script_supports_letter_spacing(c.tag) {
+        return letter_spaced(letter, left == 1, c);
     }
-    letter_spaced(letter, left == 1, c)
+    c
 }
 
 pub fn apply_letter_spacing(
