@@ -99,6 +99,14 @@ collapsed-near : AnswerNear (labelWith (below 11) 2) (labelWith (below 11) 2)
 unfolding computed built seen
 collapsed-near = (all-near _ _ _ tt, tt)
 
+-- in a script without letter spacing none does, of the exact clusters neither
+joined : List ℕ
+joined = labelAt 2 (plainVariant (tag "Rohg") (below 11))
+
+joined-near : AnswerNear joined joined
+unfolding computed built seen joined
+joined-near = (all-near _ _ _ tt, tt)
+
 -- anchored in the middle
 middle-near : AnswerNear (labelWith (whole 1) 1) (labelWith (whole 1) 1)
 unfolding computed built seen

@@ -8,7 +8,7 @@ use Rattle.labels.specs.Bytes.{bytes}
 use Rattle.labels.specs.Script.Tag.{tag}
 use Rattle.labels.specs.Layout.{layoutOf, numberOf}
 use Rattle.labels.specs.Compute.{computed}
-use Rattle.labels.proofs.Jobs.{plainVariant, labelJob, fontRow, letterRow, spanRow, plainSpan, chunkRow, jobRow, plainJob, built}
+use Rattle.labels.proofs.Jobs.{plainVariant, labelJob, fontRow, glyphRow, letterRow, spanRow, plainSpan, chunkRow, jobRow, plainJob, built}
 
 -- ---- jobs
 
@@ -49,6 +49,15 @@ full-list =
 -- the label with text length 2, SpacingAndGlyphs, and no width
 no-width : List (ℕ × ℕ)
 no-width = (66, 1) ∷ (67, 0x40) ∷ (71, 1) ∷ (95, 0) ∷ (120, 0) ∷ (145, 0) ∷ []
+
+-- "ABC", with A and B in some script: letter spacing −11 and SpacingAndGlyphs to 40, in a span of their own
+squeezed : ℕ → List ℕ
+unfolding textJob
+squeezed script =
+    textJob (65 ∷ 66 ∷ 67 ∷ [])
+    (spanRow 0 2 0xc1300000 0 1 0x42200000 1 [] (glyphRow 1 0 1 0 0 1280 script 0 ∷ glyphRow 2 1 1 0 0 1280 script 0 ∷ letterRow 3 2 1 ∷ [])
+    ∷ plainSpan 2 3 (letterRow 3 2 1 ∷ [])
+    ∷ [])
 
 -- ---- the table: a job, the bytes lent, and the number that it meets (0: accepted)
 
@@ -214,13 +223,15 @@ spans-told : numbers spans ≡ told spans
 unfolding computed built numbers told spans
 spans-told = refl
 
--- 7, 8 and 9; 10 one byte short of the answer, and for a buffer of nothing
+-- 7, 8 and 9, which a script without letter spacing does not meet where others collapse; 10 one byte short of the answer, and for a buffer of nothing
 later : List Case
-unfolding plain label changed jobOf past-the-end full-list no-width
+unfolding plain label changed jobOf past-the-end full-list no-width squeezed
 later =
     plain (jobOf (past-the-end ∷ [])) 7
     ∷ plain (jobOf (full-list ∷ [])) 8
     ∷ plain (changed no-width) 9
+    ∷ plain (squeezed (tag "Latn")) 9
+    ∷ plain (squeezed (tag "Rohg")) 0
     ∷ record { job = label; lent = 228; number = 0 }
     ∷ record { job = label; lent = 227; number = 10 }
     ∷ record { job = label; lent = 0; number = 10 }

@@ -12,7 +12,7 @@ use Rattle.labels.specs.Answer.{GlyphRow, ClusterRow, SpanRow, ChunkRow}
 use Rattle.labels.specs.Layout.{layoutRows}
 use Rattle.labels.specs.Compute.{computed}
 use Rattle.labels.proofs.Seen.{bits, whole, below, -0, shown}
-use Rattle.labels.proofs.Jobs.{fontRow, glyphRow, wideRow, letterRow, spanRow, plainSpan, chunkRow, jobRow, plainJob, built}
+use Rattle.labels.proofs.Jobs.{Variant, fontRow, glyphRow, wideRow, letterRow, spanRow, plainSpan, chunkRow, jobRow, plainJob, labelJob, plainVariant, built}
 
 -- ---- what is seen of a layout
 
@@ -114,12 +114,13 @@ offsets = refl
 
 -- ---- steps 4 and 5
 
--- the sixteen tags, and three others
+-- the seventeen tags, and four others
 tags : map scriptSupportsLetterSpacing
     (0x41726162 ∷ 0x53797263 ∷ 0x4e6b6f6f ∷ 0x4d616e69 ∷ 0x50686c70 ∷ 0x4d616e64 ∷ 0x4d6f6e67 ∷ 0x50686167 ∷ 0x44657661 ∷ 0x42656e67
-    ∷ 0x47757275 ∷ 0x4d6f6469 ∷ 0x53687264 ∷ 0x53796c6f ∷ 0x54697268 ∷ 0x4f67616d ∷ tag "Latn" ∷ tag "arab" ∷ tag "Rohg" ∷ [])
-    ≡ false ∷ false ∷ false ∷ false ∷ false ∷ false ∷ false ∷ false ∷ false ∷ false ∷ false ∷ false ∷ false ∷ false ∷ false ∷ false ∷ true
-    ∷ true ∷ true ∷ []
+    ∷ 0x47757275 ∷ 0x4d6f6469 ∷ 0x53687264 ∷ 0x53796c6f ∷ 0x54697268 ∷ 0x4f67616d ∷ 0x526f6867
+    ∷ tag "Latn" ∷ tag "arab" ∷ tag "rohg" ∷ tag "ROHG" ∷ [])
+    ≡ false ∷ false ∷ false ∷ false ∷ false ∷ false ∷ false ∷ false ∷ false ∷ false ∷ false ∷ false ∷ false ∷ false ∷ false ∷ false ∷ false
+    ∷ true ∷ true ∷ true ∷ true ∷ []
 unfolding computed
 tags = refl
 
@@ -139,6 +140,26 @@ collapsing : clustersIn lineOf
     ∷ (32 ∷ 0 ∷ 0 ∷ whole 21 ∷ []) ∷ []
 unfolding computed built seen abcd
 collapsing = refl
+
+-- document 02's Rohg: no letter spacing is added, and none takes a cluster's room. Another tag has both
+joined : map (λ (v : Variant). clustersIn lineOf (labelJob v))
+    (plainVariant (tag "Rohg") (whole 1) ∷ plainVariant (tag "Rohg") (below 11) ∷ plainVariant (tag "Rohh") (whole 1) ∷ plainVariant (tag "Rohh") (below 11) ∷ [])
+    ≡ ((0 ∷ whole 10 ∷ whole 10 ∷ below 26 ∷ []) ∷ (0 ∷ whole 4 ∷ whole 6 ∷ below 16 ∷ []) ∷ (0 ∷ whole 10 ∷ whole 10 ∷ below 10 ∷ []) ∷ [])
+    ∷ ((0 ∷ whole 10 ∷ whole 10 ∷ below 26 ∷ []) ∷ (0 ∷ whole 4 ∷ whole 6 ∷ below 16 ∷ []) ∷ (0 ∷ whole 10 ∷ whole 10 ∷ below 10 ∷ []) ∷ [])
+    ∷ ((0 ∷ whole 10 ∷ whole 11 ∷ below 28 ∷ []) ∷ (0 ∷ whole 4 ∷ whole 7 ∷ below 17 ∷ []) ∷ (0 ∷ whole 10 ∷ whole 10 ∷ below 10 ∷ []) ∷ [])
+    ∷ ((32 ∷ 0 ∷ 0 ∷ below 12 ∷ []) ∷ (32 ∷ 0 ∷ whole 2 ∷ below 12 ∷ []) ∷ (0 ∷ whole 10 ∷ whole 10 ∷ below 10 ∷ []) ∷ [])
+    ∷ []
+unfolding computed built seen
+joined = refl
+
+-- nor does a Rohg cluster collapse that has no width of its own
+widthless : map (λ (script : ℕ). clustersIn lineOf (abcd (spanRow 0 4 (below 1) 0 0 0 0 [] (glyphRow 1 0 1 0 0 0 script 0 ∷ letterRow 2 1 1 ∷ []) ∷ [])))
+    (tag "Rohg" ∷ tag "Rohh" ∷ [])
+    ≡ ((0 ∷ 0 ∷ 0 ∷ 0 ∷ []) ∷ (0 ∷ whole 10 ∷ whole 10 ∷ 0 ∷ []) ∷ [])
+    ∷ ((32 ∷ 0 ∷ 0 ∷ 0 ∷ []) ∷ (0 ∷ whole 10 ∷ whole 10 ∷ 0 ∷ []) ∷ [])
+    ∷ []
+unfolding computed built seen abcd
+widthless = refl
 
 -- ---- step 6
 

@@ -8,11 +8,12 @@ use Rattle.labels.specs.Utf8.{codePoint}
 use Rattle.labels.specs.Script.Tag.{tag}
 pub mod Tag
 
--- document 01's tags without letter spacing
+-- the tags without letter spacing: document 01's, and document 02's Rohg
 unfoldable pub unspaced : List ℕ
 unspaced =
     tag "Arab" ∷ tag "Syrc" ∷ tag "Nkoo" ∷ tag "Mani" ∷ tag "Phlp" ∷ tag "Mand" ∷ tag "Mong" ∷ tag "Phag"
-    ∷ tag "Deva" ∷ tag "Beng" ∷ tag "Guru" ∷ tag "Modi" ∷ tag "Shrd" ∷ tag "Sylo" ∷ tag "Tirh" ∷ tag "Ogam" ∷ []
+    ∷ tag "Deva" ∷ tag "Beng" ∷ tag "Guru" ∷ tag "Modi" ∷ tag "Shrd" ∷ tag "Sylo" ∷ tag "Tirh" ∷ tag "Ogam"
+    ∷ tag "Rohg" ∷ []
 
 unfoldable pub scriptSupportsLetterSpacing : ℕ → Bool
 scriptSupportsLetterSpacing t = not (among t unspaced)

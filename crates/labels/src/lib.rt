@@ -196,8 +196,11 @@ pub struct Point {
 
 // ---- scripts
 
-// The ISO 15924 tags of the scripts that take no letter spacing, four bytes each.
-pub const UNSPACED: [u32; 16] = [
+// How many scripts take no letter spacing.
+const UNSPACED_TAGS: usize = 17;
+
+// Their ISO 15924 tags, four bytes each.
+pub const UNSPACED: [u32; UNSPACED_TAGS] = [
     0x4172_6162, // Arab
     0x5379_7263, // Syrc
     0x4e6b_6f6f, // Nkoo
@@ -214,6 +217,7 @@ pub const UNSPACED: [u32; 16] = [
     0x5379_6c6f, // Sylo
     0x5469_7268, // Tirh
     0x4f67_616d, // Ogam
+    0x526f_6867, // Rohg
 ];
 
 // The script takes letter spacing: its tag is not in the table.
@@ -223,7 +227,7 @@ pub fn script_supports_letter_spacing(tag: u32) -> bool
     // A constant is copied where it stands: once, not in each turn.
     let tags = UNSPACED;
     let mut i: usize = 0;
-    while i < 16 {
+    while i < UNSPACED_TAGS {
         if tags[i] == tag {
             return false;
         }

@@ -5,7 +5,7 @@ use mathlib.Core.Path.{_≡_, refl, _∙_}
 use native.Mathlib.Omega.{arith}
 use borrow.Author.Tests.{eq-eqb, ne-eqb}
 use lib.Dec.{eqb}
-use lib.ListN.{drop, getD}
+use lib.ListN.{length, drop, getD}
 use Rattle.labels.specs.Lists.{among}
 use Rattle.labels.specs.Script.{unspaced, scriptSupportsLetterSpacing}
 use Rattle.labels.specs.Script.Tag.{tag, letters}
@@ -14,10 +14,10 @@ use Rattle.labels.proofs.script_supports_letter_spacing.Statement.{stat
 use Rattle.labels.proofs.script_supports_letter_spacing.Tie as tie
 
 abbrev Inv-loop : tie.InvT-loop
-Inv-loop t tags i₀ i = (i ≤ 16) × (among t (drop i unspaced) ≡ among t unspaced)
+Inv-loop t tags i₀ i = (i ≤ length unspaced) × (among t (drop i unspaced) ≡ among t unspaced)
 
 abbrev μ-loop : tie.MeasureT-loop
-μ-loop t tags i₀ i = 16 - i
+μ-loop t tags i₀ i = length unspaced - i
 
 loop-holds : tie.Need-loop-holds Inv-loop μ-loop
 loop-holds c = (omega arith, refl)
@@ -40,6 +40,7 @@ add-i : tie.Need-add-i Inv-loop μ-loop
 add-i c = omega arith
 
 loop-less : tie.Need-loop-less Inv-loop μ-loop
+unfolding unspaced
 loop-less c = omega arith
 
 loop-again : tie.Need-loop-again Inv-loop μ-loop
