@@ -1,5 +1,7 @@
-//! The oracle with every wrong reading of list.txt in its text, each behind a switch.
+//! The oracle as document 02 changes it, with every wrong reading of list.txt in its text, each behind a switch.
 
+#[path = "../oracle/amend.rs"]
+mod amend;
 #[path = "../oracle/copy.rs"]
 mod copy;
 #[path = "../oracle/cut.rs"]
@@ -13,6 +15,7 @@ fn main() {
         "build.rs",
         "edits.rs",
         "list.txt",
+        "../oracle/amend.rs",
         "../oracle/cut.rs",
         "../oracle/copy.rs",
     ] {
@@ -20,6 +23,7 @@ fn main() {
     }
     let readings = edits::parse(&fs::read_to_string("list.txt").unwrap());
     let mut sources = copy::sources();
+    amend::amend(&mut sources);
     for source in &mut sources {
         source.text = edits::applied(&source.text, &source.name, &readings);
     }

@@ -1,18 +1,20 @@
-//! Seeded runs of cases, each with the outcome that the Rust gives.
+//! Seeded runs of cases, each with its right outcome.
 
 use oracle::bytes::hex;
-use oracle::call::call;
 use oracle::job::{Chunk, Glyph, Job, Span};
 use oracle::refusal::Refusal;
 
 use crate::damage::damaged;
 use crate::encode::encode;
 use crate::random::Random;
+use crate::text::Text;
 use crate::{generate, labels, limits};
 
 pub struct Case {
     pub job: Vec<u8>,
     pub lent: usize,
+    /// Whose outcome it is.
+    pub text: Text,
     pub outcome: Result<Vec<u8>, Refusal>,
 }
 
@@ -56,23 +58,31 @@ fn any_job(random: &mut Random) -> Vec<u8> {
 
 /// A job with a large buffer lent.
 pub fn of_job(job: Vec<u8>) -> Case {
+    let text = Text::of_record(&job);
     Case {
-        outcome: call(&job, LARGE),
+        outcome: text.call(&job, LARGE),
         lent: LARGE,
+        text,
         job,
     }
 }
 
 fn case(job: Vec<u8>, random: &mut Random) -> Case {
-    let outcome = call(&job, usize::MAX);
+    let text = Text::of_record(&job);
+    let outcome = text.call(&job, usize::MAX);
     let whole = parts(&outcome).1.len();
     let lent = lent_length(whole, random);
     let outcome = if whole > lent {
-        call(&job, lent)
+        text.call(&job, lent)
     } else {
         outcome
     };
-    Case { job, lent, outcome }
+    Case {
+        job,
+        lent,
+        text,
+        outcome,
+    }
 }
 
 fn lent_length(whole: usize, random: &mut Random) -> usize {

@@ -4,11 +4,11 @@
 use std::error::Error;
 
 use oracle::bytes::hex;
-use oracle::call::call;
 
 use crate::cases;
 use crate::near::{shares, Kind};
 use crate::random::Random;
+use crate::text::Text;
 
 /// How often each climb begins anew, and how many jobs its first one is the best of.
 const CLIMBS: usize = 16;
@@ -71,7 +71,7 @@ fn climb_from(
 
 /// The largest share of the job's chunks of that kind, if it is accepted and has one.
 fn largest(kind: Kind, job: &[u8]) -> Result<Option<f64>, String> {
-    if call(job, usize::MAX).is_err() {
+    if Text::of_record(job).call(job, usize::MAX).is_err() {
         return Ok(None);
     }
     let of_kind = shares(job)?.into_iter().filter(|chunk| chunk.kind == kind);

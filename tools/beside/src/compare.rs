@@ -1,10 +1,11 @@
-//! Both sides on the same job: the Rust's outcome, and what the library returns and leaves in the lent buffer.
+//! Both sides on the same job: the right outcome, and what the library returns and leaves in the lent buffer.
 
 use oracle::bytes::hex;
 
 use crate::cases::{parts, Case};
 use crate::fields::name_at;
 use crate::library;
+use crate::text::Text;
 
 /// Bytes around the lent buffer that no call may touch.
 const GUARD: usize = 64;
@@ -28,7 +29,7 @@ impl Default for Lender {
 }
 
 impl Lender {
-    /// The first thing in which the library parts from the Rust.
+    /// The first thing in which the library parts from the right outcome.
     pub fn difference(&mut self, case: &Case) -> Option<String> {
         let job = case.job.clone();
         let returned = library::call(&job, &mut self.memory[GUARD..GUARD + case.lent]);
@@ -36,10 +37,10 @@ impl Lender {
         let found = if job != case.job {
             Some("the job was changed".to_string())
         } else if returned.number != number as u32 {
-            Some(format!("number {}, the Rust {number}", returned.number))
+            Some(format!("number {}, right is {number}", returned.number))
         } else if returned.length as usize != answer.len() {
             let length = returned.length;
-            Some(format!("length {length}, the Rust {}", answer.len()))
+            Some(format!("length {length}, right is {}", answer.len()))
         } else {
             self.difference_in_memory(answer, case.lent)
         };
@@ -55,7 +56,7 @@ impl Lender {
         if let Some(at) = first_difference(got, answer) {
             let field = name_at(answer, at);
             return Some(format!(
-                "{field}: byte {at} {:02x}, the Rust {:02x}",
+                "{field}: byte {at} {:02x}, right is {:02x}",
                 got[at], answer[at]
             ));
         }
@@ -84,7 +85,7 @@ fn first_difference(one: &[u8], other: &[u8]) -> Option<usize> {
     one.iter().zip(other).position(|(a, b)| a != b)
 }
 
-/// What a run met.
+/// What a run met beside one text.
 #[derive(Default)]
 pub struct Tally {
     jobs: usize,
@@ -99,7 +100,11 @@ impl Tally {
     pub fn add(&mut self, case: &Case, difference: Option<String>) {
         if let Some(difference) = difference {
             if self.differences < MOST_PRINTED {
-                println!("job {}: {difference}", self.jobs);
+                println!(
+                    "job {} beside {}: {difference}",
+                    self.jobs,
+                    case.text.name()
+                );
                 println!("  lent {} job {}", case.lent, hex(&case.job));
             }
             self.differences += 1;
@@ -115,10 +120,46 @@ impl Tally {
         println!("refused 1 to 10: {}", refused.join(", "));
     }
 
-    /// The run's verdict: no difference.
-    pub fn verdict(&self) -> Result<(), String> {
+    fn print_compared(&self) {
+        self.print();
         println!("differences {}", self.differences);
-        match self.differences {
+    }
+}
+
+/// A run: each job beside the text that is right of it.
+#[derive(Default)]
+pub struct Tallies {
+    rust: Tally,
+    /// What is left out of the comparison with the Rust.
+    amended: Tally,
+    /// How many of these the Rust answers otherwise.
+    otherwise: usize,
+}
+
+impl Tallies {
+    pub fn add(&mut self, case: &Case, difference: Option<String>) {
+        match case.text {
+            Text::Rust => self.rust.add(case, difference),
+            Text::Amended => {
+                let rust = Text::Rust.call(&case.job, case.lent);
+                self.otherwise += usize::from(rust != case.outcome);
+                self.amended.add(case, difference);
+            }
+        }
+    }
+
+    pub fn print(&self) {
+        println!("beside {}", Text::Rust.name());
+        self.rust.print_compared();
+        println!("left out, with the tag Rohg and letter spacing");
+        println!("these beside {}", Text::Amended.name());
+        self.amended.print_compared();
+        println!("answered otherwise by the Rust itself {}", self.otherwise);
+    }
+
+    /// No difference.
+    pub fn verdict(&self) -> Result<(), String> {
+        match self.rust.differences + self.amended.differences {
             0 => Ok(()),
             n => Err(format!("{n} jobs differ")),
         }

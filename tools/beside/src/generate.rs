@@ -74,6 +74,8 @@ const UNLISTED: &[&[u8; 4]] = &[
     b"arab",
     b"Arac",
     b"ModI",
+    b"rohg",
+    b"Rohh",
     b"\0\0\0\0",
     b"\xff\xff\xff\xff",
 ];

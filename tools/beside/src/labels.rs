@@ -75,6 +75,14 @@ const SCRIPTS: &[Script] = &[
         ..LATIN
     },
     Script {
+        tag: b"Rohg",
+        letters: "𐴀𐴁𐴃𐴇𐴊𐴌",
+        marks: "\u{10d24}\u{10d25}",
+        joined: &["𐴀𐴁"],
+        right_to_left: true,
+        ..LATIN
+    },
+    Script {
         tag: b"Deva",
         letters: "जौगेहूँक्ष",
         marks: "\u{902}\u{93f}",

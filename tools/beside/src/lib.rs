@@ -18,4 +18,5 @@ pub mod shown;
 pub mod store;
 pub mod tables;
 pub mod tell;
+pub mod text;
 pub mod whole;

@@ -9,11 +9,12 @@ use std::process::exit;
 use std::{env, fs};
 
 use beside::cases::{self, Case};
-use beside::compare::{Lender, Tally};
+use beside::compare::{Lender, Tallies};
+use beside::text::Text;
 use beside::{climb, near, reach, store, tell};
 
 const USAGE: &str = "\
-beside run SEED COUNT       the library beside the Rust, on jobs of every kind
+beside run SEED COUNT       the library beside the Rust, on jobs of every kind; those with Rohg and letter spacing apart
 beside reach SEED COUNT     what these jobs show, and which branches of the Rust's text they take
 beside readings SEED COUNT  after how many of them each wrong reading is told apart
 beside transforms SEED COUNT
@@ -21,7 +22,7 @@ beside transforms SEED COUNT
 beside tables SEED COUNT    the same where tags and orientations are those of the Unicode tables
 beside near SEED COUNT      how far answers are from the exact layout, as a share of what demand 3 allows
 beside climb SEED COUNT     the same, searched for by that many changes of jobs
-beside store COUNT DIR      jobs for crates/replay, chosen for what they show, with the Rust's answers
+beside store COUNT DIR      jobs for crates/replay, chosen for what they show, with the right answers
 beside replay DIR           the library beside the answers of such jobs
 beside answer FILE LENT     a job's number and answer, in hex
 beside gen SEED COUNT DIR   small cases for `evaluate`
@@ -50,16 +51,16 @@ fn main() -> Done {
     }
 }
 
-/// The library beside the outcomes that the Rust gave.
+/// The library beside the right outcomes.
 fn run(cases: impl Iterator<Item = Case>) -> Done {
     let mut lender = Lender::default();
-    let mut tally = Tally::default();
+    let mut tallies = Tallies::default();
     for case in cases {
         let difference = lender.difference(&case);
-        tally.add(&case, difference);
+        tallies.add(&case, difference);
     }
-    tally.print();
-    Ok(tally.verdict()?)
+    tallies.print();
+    Ok(tallies.verdict()?)
 }
 
 fn replay(dir: &Path) -> Done {
@@ -74,7 +75,8 @@ fn replay(dir: &Path) -> Done {
 }
 
 fn answer_file(file: &str, lent: usize) -> Done {
-    let outcome = oracle::call::call(&fs::read(file)?, lent);
+    let job = fs::read(file)?;
+    let outcome = Text::of_record(&job).call(&job, lent);
     let (number, answer) = cases::parts(&outcome);
     println!("{} {}", number, cases::word(answer));
     Ok(())

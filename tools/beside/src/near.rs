@@ -9,6 +9,7 @@ use oracle::job::{Chunk, Job};
 
 use crate::cases;
 use crate::exact::{exact, Exact};
+use crate::text::Text;
 use crate::whole::Whole;
 
 /// What is allowed depends on whether a span of the chunk has a text length.
@@ -53,7 +54,7 @@ pub struct Share {
 /// The chunks of an accepted job; one that breaks demand 3 is an error.
 pub fn shares(job: &[u8]) -> Result<Vec<Share>, String> {
     let decoded = decode(job).expect("accepted");
-    let rows = oracle::rust::rows(&decoded).expect("accepted");
+    let rows = Text::of(&decoded).rows(&decoded).expect("accepted");
     let mut characters = 0;
     let mut shares = vec![];
     for (chunk, row) in decoded.chunks.iter().zip(&rows) {

@@ -1,5 +1,5 @@
-//! Jobs to keep, with the Rust's answers: few and small, and between them they take every branch that can be taken, meet every
-//! number and tell every wrong reading apart.
+//! Jobs to keep, with the right answers: few and small, and between them they take every branch of the Rust that can be taken, meet
+//! every number and tell every wrong reading apart.
 //!
 //! A file holds the number of its records (4 bytes, as all numbers here, but for the refusal's, which is 1) and then each record:
 //! lent length, number, job's length, job, answer's length, answer.
@@ -9,7 +9,8 @@ use std::fs;
 use std::path::Path;
 
 use counted::count::{reset, BRANCHES};
-use oracle::label::label;
+use oracle::job::Job;
+use oracle::label::{label, rohingya};
 use oracle::refusal::Refusal;
 use readings::reading::NAMES;
 
@@ -17,6 +18,7 @@ use crate::cases::{self, parts, Case};
 use crate::encode::encode;
 use crate::reach::NEVER;
 use crate::tell::{agrees, quietly};
+use crate::text::Text;
 
 const SEED: u64 = 1;
 /// How many jobs are looked through, at each size in turn.
@@ -34,7 +36,9 @@ const MOST_LENT: usize = 1 << 16;
 pub fn write(count: usize, dir: &Path) -> Result<(), Box<dyn Error>> {
     quietly();
     let mut chosen = Chosen::new();
-    chosen.consider(cases::of_job(encode(&label())), 1);
+    for job in labels() {
+        chosen.consider(cases::of_job(encode(&job)), OFTEN);
+    }
     for (i, &size) in SIZES.iter().enumerate() {
         let often = if i == 0 { OFTEN } else { 1 };
         let fitting = cases::all(SEED, SEARCHED).filter(|case| fits(case, size));
@@ -52,6 +56,14 @@ pub fn write(count: usize, dir: &Path) -> Result<(), Box<dyn Error>> {
         chosen.cases.len()
     );
     chosen.report()
+}
+
+/// The label, and two in Hanifi Rohingya: one with letter spacing 1; one with -11, scaled to a length of 52.
+fn labels() -> [Job; 3] {
+    let mut scaled = rohingya(-11.0);
+    let span = &mut scaled.chunks[0].spans[0];
+    (span.length_flag, span.text_length, span.adjust) = (1, 52f32.to_bits(), 1);
+    [label(), rohingya(1.0), scaled]
 }
 
 fn fits(case: &Case, size: usize) -> bool {
@@ -76,10 +88,12 @@ impl Chosen {
         }
     }
 
-    /// Keeps a case that shows something that was shown less often.
+    /// Keeps a case that shows something that was shown less often. A branch of the Rust is shown where the Rust is right.
     fn consider(&mut self, case: Case, often: usize) {
         reset();
-        let _ = counted::call::call(&case.job, case.lent);
+        if case.text == Text::Rust {
+            let _ = counted::call::call(&case.job, case.lent);
+        }
         let number = parts(&case.outcome).0 as usize;
         let mut new = self.numbers[number] < often;
         let readings: Vec<bool> = (0..NAMES.len())
@@ -187,7 +201,12 @@ fn case(rest: &mut &[u8]) -> Result<Case, Box<dyn Error>> {
         0 => Ok(answer),
         number => Err(Refusal(number)),
     };
-    Ok(Case { job, lent, outcome })
+    Ok(Case {
+        text: Text::of_record(&job),
+        job,
+        lent,
+        outcome,
+    })
 }
 
 fn length(rest: &mut &[u8]) -> Result<usize, Box<dyn Error>> {

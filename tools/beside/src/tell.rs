@@ -1,4 +1,4 @@
-//! Wrong readings: after how many jobs each is told apart from the Rust.
+//! Wrong readings: after how many jobs each is told apart from the right one.
 
 use std::error::Error;
 use std::panic::{self, catch_unwind};

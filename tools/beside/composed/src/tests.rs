@@ -1,7 +1,7 @@
 //! The worked label by hand, and the oracle's stand-ins beside the crates themselves.
 
 use ::unicode_script::UnicodeScript;
-use beside::tables::LISTED;
+use beside::tables::{LISTED, ROHINGYA};
 use oracle::job::Job;
 use oracle::label::label;
 
@@ -58,13 +58,12 @@ fn an_upright_glyph() {
     }
 }
 
-/// Over all code points, the scripts that the Rust names are the tags of document 01.
+/// Over all code points, the scripts that the Rust names are the tags without letter spacing, but for the one that document 02 adds.
 #[test]
 fn tags_without_letter_spacing() {
     for c in '\0'..=char::MAX {
-        let listed = LISTED
-            .iter()
-            .any(|tag| *tag == c.script().short_name().as_bytes());
+        let mut names = LISTED.iter().filter(|tag| **tag != ROHINGYA);
+        let listed = names.any(|tag| *tag == c.script().short_name().as_bytes());
         assert_eq!(script_supports_letter_spacing(c.script()), !listed, "{c:?}");
     }
 }

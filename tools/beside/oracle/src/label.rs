@@ -63,6 +63,15 @@ pub fn label() -> Job {
     }
 }
 
+/// The label in Hanifi Rohingya, with some letter spacing.
+pub fn rohingya(letter: f32) -> Job {
+    let mut job = label();
+    let span = &mut job.chunks[0].spans[0];
+    span.letter_spacing = letter.to_bits();
+    span.glyphs.iter_mut().for_each(|g| g.tag = *b"Rohg");
+    job
+}
+
 #[cfg(test)]
 mod tests {
     use super::label;

@@ -25,7 +25,9 @@ pub mod unicode_script {
         Syloti_Nagri,
         Tirhuta,
         Ogham,
-        /// Any script that the Rust does not name.
+        /// Document 02 names it, the Rust does not.
+        Hanifi_Rohingya,
+        /// Any script that neither names.
         Other,
     }
 
@@ -58,6 +60,7 @@ pub mod unicode_script {
             b"Sylo" => Script::Syloti_Nagri,
             b"Tirh" => Script::Tirhuta,
             b"Ogam" => Script::Ogham,
+            b"Rohg" => Script::Hanifi_Rohingya,
             _ => Script::Other,
         }
     }
