@@ -27,7 +27,7 @@ pub record Numbers (g n H X Y B E k : ℕ) : Type 0 where
 module _ {S z g n s H X : ℕ} (m : Sizes S z g n s H X) where
   -- ---- the two kinds of chunks
 
-  -- with a text length the error is at most (485 g + 1,180) H + (90 g + 207) X, and 512 (g + 3) (H + X) is allowed
+  -- with a text length the error is at most (440 g + 1,027) H + (81 g + 198) X, and 512 (g + 3) (H + X) is allowed
   pub length-numbers : Numbers g n H X H (3 * H) ((56 * g + 46) * H) 18
   length-numbers =
       record {
@@ -38,7 +38,7 @@ module _ {S z g n s H X : ℕ} (m : Sizes S z g n s H X) where
         distance = omega (arith, mul-le-mul-right X (m .clusters));
       }
 
-  -- without one it is at most (108 g + 355) H + (90 g + 207) X, and 128 (g + 3) (H + X) is allowed
+  -- without one it is at most (99 g + 319) H + (81 g + 198) X, and 128 (g + 3) (H + X) is allowed
   pub plain-numbers : Numbers g n H X 0 H ((9 * g + 37) * H) 20
   plain-numbers =
       record {

@@ -1,6 +1,6 @@
 -- Step 7: the offset of each cluster beside the exact one. Of n clusters whose advances have the mass B and the error E together, whose length
--- spacings have Y and Ey and whose shifts have X and Ex, an offset has at most the error 5 Ex + 4 E + 3 Ey + 27 n B + 207 M + 45 n M, with
--- M = B + X + Y. Assumes nothing.
+-- spacings have Y and Ey and whose shifts have X and Ex, an offset has at most the error
+-- 5 Ex + 4 E + 3 Ey + 36 n B + 9 n X + 27 n M + 162 M + 36 X + 9 B, with M = B + X + Y. Assumes nothing.
 use Prim.Native.Nat.{ℕ, zero, suc, _+_, _*_, _^_, _≤_}
 use mathlib.Core.Path.{_≡_, sym, subst}
 use mathlib.Core.Bool.{Bool, true, false, cond}
@@ -51,7 +51,8 @@ abbrev pub edgeError : ℕ → ℕ → ℕ → ℕ → ℕ → ℕ → ℕ → �
 edgeError B E n X Ex Y Ey = E + 9 * (n * B) + Ex + Ey + 27 * reachMass B X Y
 
 abbrev pub offsetError : ℕ → ℕ → ℕ → ℕ → ℕ → ℕ → ℕ → ℕ
-offsetError B E n X Ex Y Ey = 5 * Ex + 4 * E + 3 * Ey + 27 * (n * B) + 207 * reachMass B X Y + 45 * (n * reachMass B X Y)
+offsetError B E n X Ex Y Ey =
+    5 * Ex + 4 * E + 3 * Ey + 36 * (n * B) + 9 * (n * X) + 27 * (n * reachMass B X Y) + 162 * reachMass B X Y + 36 * X + 9 * B
 
 module _ {D S Y Ey X Ex : ℕ} where
   x-at : {ks : List Cell} {cs : List Cluster} {qs : List ExactCluster} → Scale D S → Shifted D S Y Ey X Ex ks cs qs → (i : ℕ) → Track D S 2 (atOr +0 (rounded .x) cs i) (atOr 0ᵠ (exact .x) qs i) X Ex
@@ -114,26 +115,27 @@ pub record Offset (D S m e : ℕ) (c : Cluster) (q : ExactCluster) : Type 0 wher
   pub collapsed : c .collapsed ≡ q .collapsed
   pub x : Track D S 1 (c .x) (q .x) m e
 
--- one turn of the placing, in numbers
-record Move (S Y Ey X Ex B E n b ep a e as' es m : ℕ) : Type 0 where
-  mass : b + X ≤ 6 * reachMass B X Y
-  room : ep + Ex ≤ 2 ^ 24 * (6 * reachMass B X Y)
-  error : ep + Ex + 9 * (6 * reachMass B X Y) ≤ offsetError B E n X Ex Y Ey
-  next-mass : b + a ≤ 5 * reachMass B X Y
-  next-room : ep + e ≤ 2 ^ 24 * (5 * reachMass B X Y)
-  next-fits : 5 * reachMass B X Y ≤ S
-  rest-mass : b + a + as' ≤ 5 * reachMass B X Y
-  rest-error : ep + e + 9 * (5 * reachMass B X Y) + es + 9 * (m * (5 * reachMass B X Y))
-      ≤ Ex + edgeError B E n X Ex Y Ey + 9 * (2 * reachMass B X Y) + (edgeError B E n X Ex Y Ey + edgeError B E n X Ex Y Ey + 18 * reachMass B X Y) + 9 * (4 * reachMass B X Y) + E + 45 * (n * reachMass B X Y)
+-- one turn of the placing, in numbers: the line has got to the mass b and the error ep, and gets to W and `line` at most
+record Move (S M W X Ex line offset b ep a e as' es m : ℕ) : Type 0 where
+  mass : b + X ≤ W + X
+  all : b + X ≤ 6 * M
+  room : ep + Ex ≤ 2 ^ 24 * (W + X)
+  fits : W + X ≤ S
+  error : ep + Ex + 9 * (W + X) ≤ offset
+  next-mass : b + a ≤ W
+  next-room : ep + e ≤ 2 ^ 24 * W
+  next-fits : W ≤ S
+  rest-mass : b + a + as' ≤ W
+  rest-error : ep + e + 9 * W + es + 9 * (m * W) ≤ line
 
-move : (S Y Ey X Ex B E n b ep a e as' es m : ℕ) → offsetError B E n X Ex Y Ey ≤ 2 ^ 24 * reachMass B X Y → 6 * reachMass B X Y ≤ S → b + (a + as') ≤ 5 * reachMass B X Y
-    → ep + (e + es) + 9 * (suc m * (5 * reachMass B X Y))
-    ≤ Ex + edgeError B E n X Ex Y Ey + 9 * (2 * reachMass B X Y) + (edgeError B E n X Ex Y Ey + edgeError B E n X Ex Y Ey + 18 * reachMass B X Y) + 9 * (4 * reachMass B X Y) + E + 45 * (n * reachMass B X Y)
-    → Move S Y Ey X Ex B E n b ep a e as' es m
-move S Y Ey X Ex B E n b ep a e as' es m r f h k =
+move : (S M W X Ex line offset b ep a e as' es m : ℕ) → offset ≤ 2 ^ 24 * M → 6 * M ≤ S → (W + X ≤ 6 * M) × (M ≤ W) → line + Ex + 9 * (W + X) ≤ offset
+    → b + (a + as') ≤ W → ep + (e + es) + 9 * (suc m * W) ≤ line → Move S M W X Ex line offset b ep a e as' es m
+move S M W X Ex line offset b ep a e as' es m r f w i h k =
     record {
       mass = omega arith;
+      all = omega arith;
       room = omega arith;
+      fits = omega arith;
       error = omega arith;
       next-mass = omega arith;
       next-room = omega arith;
@@ -207,21 +209,36 @@ module _ {D S : ℕ} (sc : Scale D S) (Y Ey X Ex B E n : ℕ) (roomB : E + 9 * (
 
   -- ---- the offsets
 
-  -- where the line begins, in numbers
+  -- where the line begins, and where it ends with all advances behind it
+  abbrev lineMass : ℕ
+  lineMass = X + M + (M + M)
+
   abbrev lineError : ℕ
-  lineError = Ex + El + 9 * (2 * M) + (El + El + 18 * M) + 9 * (4 * M)
+  lineError = Ex + El + 9 * (X + M) + (El + El + 18 * M) + 9 * lineMass
+
+  abbrev endMass : ℕ
+  endMass = lineMass + B
+
+  abbrev endError : ℕ
+  endError = lineError + E + 9 * (n * endMass)
+
+  end-wide : (endMass + X ≤ 6 * M) × (M ≤ endMass)
+  end-wide = (omega arith, omega arith)
+
+  end-in : endError + Ex + 9 * (endMass + X) ≤ offsetError B E n X Ex Y Ey
+  end-in = omega arith
 
   placed : {ks : List Cell} {cs : List Cluster} {qs : List ExactCluster} {p : Float} {v : Frac} (b ep : ℕ) → Shifted D S Y Ey X Ex ks cs qs → Track D S 1 p v b ep
-      → b + sumOf (λ k. k .a) ks ≤ 5 * M → ep + sumOf (λ k. k .e) ks + 9 * (length ks * (5 * M)) ≤ lineError + E + 45 * (n * M)
+      → b + sumOf (λ k. k .a) ks ≤ endMass → ep + sumOf (λ k. k .e) ks + 9 * (length ks * endMass) ≤ endError
       → AllPairs (Offset D S (6 * M) (offsetError B E n X Ex Y Ey)) (placedFrom rounded p cs) (placedFrom exact v qs)
   unfolding placedFrom scan
   placed b ep Shifted.nil t h k = AllPairs.none
   placed b ep (Shifted.cons {k = k₁} {ks = ks} c l) t h k =
-      let u = move S Y Ey X Ex B E n b ep (k₁ .a) (k₁ .e) (sumOf (λ k. k .a) ks) (sumOf (λ k. k .e) ks) (length ks) roomM fits h k in
-      let here = track-add (6 * M) t (track-lower 1 2 (c .x)) (u .mass) (u .room) fits in
-      let next = track-add (5 * M) t (track-lower 1 2 (c .advance)) (u .next-mass) (u .next-room) (u .next-fits) in
-      AllPairs.more (record { index = c .index; collapsed = c .collapsed; x = track-weaken _ _ (u .mass) (u .error) here })
-      (placed (b + k₁ .a) (ep + k₁ .e + 9 * (5 * M)) l next (u .rest-mass) (u .rest-error))
+      let u = move S M endMass X Ex endError (offsetError B E n X Ex Y Ey) b ep (k₁ .a) (k₁ .e) (sumOf (λ k. k .a) ks) (sumOf (λ k. k .e) ks) (length ks) roomM fits end-wide end-in h k in
+      let here = track-add (endMass + X) t (track-lower 1 2 (c .x)) (u .mass) (u .room) (u .fits) in
+      let next = track-add endMass t (track-lower 1 2 (c .advance)) (u .next-mass) (u .next-room) (u .next-fits) in
+      AllPairs.more (record { index = c .index; collapsed = c .collapsed; x = track-weaken _ _ (u .all) (u .error) here })
+      (placed (b + k₁ .a) (ep + k₁ .e + 9 * endMass) l next (u .rest-mass) (u .rest-error))
 
   -- sums of the numbers above, once
   record Sums : Type 0 where
@@ -232,11 +249,10 @@ module _ {D S : ℕ} (sc : Scale D S) (Y Ey X Ex B E n : ℕ) (roomB : E + 9 * (
     width-mass : M + M ≤ 2 * M
     width-room : El + El ≤ 2 ^ 24 * (2 * M)
     width-fits : 2 * M ≤ S
-    first-mass : X + M ≤ 2 * M
-    first-room : Ex + El ≤ 2 ^ 24 * (2 * M)
-    line-mass : X + M + (M + M) ≤ 4 * M
-    line-room : Ex + El + 9 * (2 * M) + (El + El + 18 * M) ≤ 2 ^ 24 * (4 * M)
-    line-fits : 4 * M ≤ S
+    first-room : Ex + El ≤ 2 ^ 24 * (X + M)
+    first-fits : X + M ≤ S
+    line-room : Ex + El + 9 * (X + M) + (El + El + 18 * M) ≤ 2 ^ 24 * lineMass
+    line-fits : lineMass ≤ S
 
   sums : Sums
   sums =
@@ -248,9 +264,8 @@ module _ {D S : ℕ} (sc : Scale D S) (Y Ey X Ex B E n : ℕ) (roomB : E + 9 * (
         width-mass = omega arith;
         width-room = omega arith;
         width-fits = omega arith;
-        first-mass = omega arith;
         first-room = omega arith;
-        line-mass = omega arith;
+        first-fits = omega arith;
         line-room = omega arith;
         line-fits = omega arith;
       }
@@ -262,7 +277,7 @@ module _ {D S : ℕ} (sc : Scale D S) (Y Ey X Ex B E n : ℕ) (roomB : E + 9 * (
   unfolding positioned
   offsets {ks} {cs} {qs} anchor absorbs l same h k few =
       subst (λ (is : List ℕ). AllPairs (Offset D S (6 * M) (offsetError B E n X Ex Y Ey)) (placedFrom rounded (begin is) cs) (placedFrom exact (exactBegin (map (exact .index) qs)) qs)) (sym same)
-      (placed (X + M + (M + M)) lineError l line (mass (sumOf (λ k. k .a) ks) h) (error (sumOf (λ k. k .e) ks) (length ks) k (mul-le-mul-right M few)))
+      (placed lineMass lineError l line (mass (sumOf (λ k. k .a) ks) h) (error (sumOf (λ k. k .e) ks) (length ks) k (mul-le-mul-right endMass few)))
     where
       begin : List ℕ → Float
       begin is =
@@ -286,13 +301,13 @@ module _ {D S : ℕ} (sc : Scale D S) (Y Ey X Ex B E n : ℕ) (roomB : E + 9 * (
           edges 0 0 l (record { left = first; right = first; advance = track-zero sc 2 0 0 }) (none (sumOf (λ k. k .a) ks) h)
           (prefix 0 (sumOf (λ k. k .e) ks) (length ks) k (mul-le-mul-right B few))
 
-      line : Track D S 1 (begin (map (exact .index) qs)) (exactBegin (map (exact .index) qs)) (X + M + (M + M)) lineError
+      line : Track D S 1 (begin (map (exact .index) qs)) (exactBegin (map (exact .index) qs)) lineMass lineError
       line =
-          track-add (4 * M) (track-sub (2 * M) (track-lower 1 2 (x-at sc l (firstPlace (logicalOrder (map (exact .index) qs))))) (track-lower 1 2 (reach .left)) (sums .first-mass) (sums .first-room) (sums .width-fits))
-          (anchored anchor absorbs (track-sub (2 * M) (reach .right) (reach .left) (sums .width-mass) (sums .width-room) (sums .width-fits))) (sums .line-mass) (sums .line-room) (sums .line-fits)
+          track-add lineMass (track-sub (X + M) (track-lower 1 2 (x-at sc l (firstPlace (logicalOrder (map (exact .index) qs))))) (track-lower 1 2 (reach .left)) (le-refl (X + M)) (sums .first-room) (sums .first-fits))
+          (anchored anchor absorbs (track-sub (2 * M) (reach .right) (reach .left) (sums .width-mass) (sums .width-room) (sums .width-fits))) (le-refl lineMass) (sums .line-room) (sums .line-fits)
 
-      mass : (a : ℕ) → a ≤ B → X + M + (M + M) + a ≤ 5 * M
+      mass : (a : ℕ) → a ≤ B → lineMass + a ≤ endMass
       mass a i = omega arith
 
-      error : (e c : ℕ) → e ≤ E → c * M ≤ n * M → lineError + e + 9 * (c * (5 * M)) ≤ lineError + E + 45 * (n * M)
+      error : (e c : ℕ) → e ≤ E → c * endMass ≤ n * endMass → lineError + e + 9 * (c * endMass) ≤ endError
       error e c i j = omega arith
