@@ -65,7 +65,7 @@ static void put_span(struct writer *w) {
     put_float(w, 2); /* word spacing */
     put(w, 0, 1);    /* no text length .. */
     put(w, 0, 4);    /* .. so four zero bytes */
-    put(w, 0, 1);    /* adjust */
+    put(w, LAYOUT_ADJUST_SPACING, 1);
     put(w, 0, 1);    /* dominant baseline */
     put(w, 0, 1);    /* alignment baseline */
     put(w, 1, 1);    /* decorations: under */

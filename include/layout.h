@@ -65,6 +65,15 @@ enum layout_number {
 #define LAYOUT_CLUSTER_LENGTH_MOST 64
 #define LAYOUT_NO_FONT 255 /* the font byte of a span without a font: such a span has no glyphs */
 
+/* ---- a span's adjust byte: how its clusters are brought to its text length. Without a text length it says nothing.
+ *
+ * Spacing and the natural length give each cluster the same share of what is missing (or too much), one cluster 0. The natural length is
+ * what SVG 1.1 asks for; Spacing is what usvg does, and drops letter and word spacing.
+ */
+#define LAYOUT_ADJUST_SPACING 0            /* a cluster's advance becomes its width and its share */
+#define LAYOUT_ADJUST_SPACING_AND_GLYPHS 1 /* glyphs are stretched along the line, and advances stay; clusters all of width 0 meet 9 */
+#define LAYOUT_ADJUST_NATURAL 2            /* a cluster's advance, letter and word spacing in it, gets its share */
+
 /* ---- the answer
  *
  * u32 length of what follows, version byte, chunk count byte, chunks.
@@ -93,7 +102,7 @@ enum layout_number {
 #define LAYOUT_FLAGS_AT 2      /* byte: the flags below */
 #define LAYOUT_WIDTH_AT 3      /* float: how wide the glyphs are */
 #define LAYOUT_ADVANCE_AT 7    /* float: how far the next cluster starts from this one, spacing included */
-#define LAYOUT_SPACING_AT 11   /* float: what a text length added to the width */
+#define LAYOUT_SPACING_AT 11   /* float: the share that a text length added, by Spacing or the natural length; else 0 */
 #define LAYOUT_ASCENT_AT 15    /* float: the height above the baseline */
 #define LAYOUT_DESCENT_AT 19   /* float: the depth below it, negative */
 #define LAYOUT_NUDGE_AT 23     /* float: top to bottom, the shift that puts the baseline in the middle; else 0 */
@@ -109,7 +118,7 @@ enum layout_number {
 #define LAYOUT_RELATIVE_SHIFT 1 /* moved by dx and dy otherwise than the cluster before it, or rotated: a decoration line breaks here */
 #define LAYOUT_UPRIGHT 2        /* top to bottom: stands upright */
 #define LAYOUT_SIDEWAYS 4       /* top to bottom: lies on its side */
-#define LAYOUT_SCALED 8         /* stretched to a text length */
+#define LAYOUT_SCALED 8         /* stretched to a text length, by SpacingAndGlyphs */
 #define LAYOUT_ROTATED 16       /* turned by the rotate list */
 #define LAYOUT_COLLAPSED 32     /* negative letter spacing left it no room: width 0 and no glyphs */
 

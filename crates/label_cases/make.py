@@ -1,6 +1,6 @@
-# Writes data/, args and stdout: P1 to P9 of document 01, a job of two chunks, one of the most bytes, and one for each refusal 1 to 10,
-# each with the layout in the document's text form. The answers are those of the Rust's own functions: build tools/beside first.
-# Run in this folder: python3 make.py
+# Writes data/, args and stdout: P1 to P9 of document 01, the label with document 02's adjust 2, a job of two chunks, one of the most
+# bytes, and one for each refusal 1 to 10, each with the layout in the document's text form. The answers are those of the Rust's own
+# functions, and for adjust 2 of the one that stands for it: build tools/beside first. Run in this folder: python3 make.py
 import struct
 import subprocess
 import sys
@@ -102,6 +102,10 @@ labels = [
     ("P9-tag-arab", one(glyphs=glyphs(tag=b"Arab"))),
 ]
 
+# ---- adjust 2 of document 02, with a text length and without
+
+natural = [("0-text-length-by-adjust-2", one(fixed=1, length=f(54), adjust=2)), ("0-adjust-2-with-clear-flag", one(adjust=2))]
+
 # ---- more than one of each: the second chunk starts at the pen, and its middle span has no font and so no row
 
 
@@ -143,7 +147,7 @@ refused = [
     (10, "answer-a-byte-too-long", one_byte_too_long()),
 ]
 
-cases = labels + several + [(f"{number}-{name}", record) for number, name, record in refused]
+cases = labels + natural + several + [(f"{number}-{name}", record) for number, name, record in refused]
 write_data(cases)
 with open("stdout", "w") as out:
     for name, _ in cases:
@@ -164,3 +168,10 @@ assert advances[8] == [10, 6, 10]
 assert [answered(f"{number}-{name}")[0] for number, name, _ in refused] == list(range(1, 11))
 assert [answered(name)[0] for name, _ in several] == [0, 0, 1]
 assert len(answered("10-answer-a-byte-too-long", LENT + 1)[1]) == LENT + 1
+
+# ---- what document 02 says of adjust 2; the text form does not show length spacing
+
+spread = read_answer(answered("0-text-length-by-adjust-2")[1])[0]
+assert [(c["width"], c["advance"], c["spacing"], c["flags"]) for c in spread["clusters"]] == [(10, 24, 13, 0), (4, 20, 13, 0), (10, 23, 13, 0)]
+assert (spread["clusters"][0]["x"], spread["pen"]) == (-54, (113, 50))
+assert answered("0-adjust-2-with-clear-flag") == answered("P1-label")

@@ -6,7 +6,7 @@ use mathlib.Core.List.{List, [], _∷_, map, foldl, map-map}
 use native.Mathlib.Nat.{one-mul, mul-assoc, le-of-eq, le-trans, mul-pos}
 use native.Mathlib.Omega.{arith}
 use lib.ListN.{length, length-map}
-use lib.Dec.{T, ltb, eqb, ltb→lt, lit<}
+use lib.Dec.{T, ltb, ltb→lt, lit<}
 use lib.Pow.{pow-pos}
 use lib.IntN.{pos}
 use Rattle.rounding.specs.Fraction.{Frac, _·ᵠ_, _/ᵠ_}
@@ -24,7 +24,7 @@ use Rattle.labels.specs.declared.Glyph.{Glyph}
 use Rattle.labels.specs.declared.Cluster.{Cluster}
 use Rattle.labels.specs.Outcome.{given}
 use Rattle.labels.specs.Lists.{any}
-use Rattle.labels.specs.Job.{Job, Chunk, spansOf, hasLength, adjustSpacing}
+use Rattle.labels.specs.Job.{Job, Chunk, spansOf, hasLength, spreads}
 use Rattle.labels.specs.Check.{spansOk}
 use Rattle.labels.specs.Group.{Group, groups}
 use Rattle.labels.specs.Spacing.{applyLetterSpacing, applyWordSpacing}
@@ -32,6 +32,7 @@ use Rattle.labels.specs.Position.{resolveRelativeShifts, turnShifts, positioned
 use Rattle.labels.specs.Cluster.{rounded, applyLengthAdjust, markRelativeShifts}
 use Rattle.labels.specs.Layout.{collapsedClusters, adjustedClusters, resolveClustersPositionsHorizontal}
 use Rattle.labels.specs.Exact.{ExactCluster, exact, formedExactly, adjustSpanExactly, layoutExactly, sizeTotal, allowed, sharpness, AllPairs}
+use Rattle.exact.proofs.Costs.{spacedCost}
 use Rattle.exact.proofs.Products.{product, product-positive}
 use Rattle.exact.proofs.Load.{Load}
 use Rattle.exact.proofs.Formed.{FontIn, Frame, unitsOf}
@@ -50,7 +51,7 @@ use Rattle.exact.proofs.Groups.{spaced-groups, formed-groups, glyph-tot
 
 divisor-positive : (is : List ℕ) (s : Span) → 0 < divisor is s
 unfolding divisor
-divisor-positive is s = go (hasLength s && eqb (s .adjust) adjustSpacing)
+divisor-positive is s = go (spreads s)
   where
     n : ℕ
     n = marked (marksFrom s [] is)
@@ -186,17 +187,17 @@ module _ (job : Job) (c : Chunk) (offset : ℕ) (gs : List Glyph) (fonts : All F
   abbrev Within : Frac → List Cluster → List ExactCluster → Type 0
   Within b ds qs = AllPairs (Placed b) (positioned rounded (c .anchor) (moved ds) .clusters) (positioned exact (c .anchor) (movedExactly qs) .clusters)
 
-  module _ {Y B E k : ℕ} {ds : List Cluster} {qs : List ExactCluster} (nums : Numbers g (length G) H X Y B E k) (left : Summed (job .fonts) spans K D S g Y B E is ds qs) where
+  module _ {Y Ey B E k : ℕ} {ds : List Cluster} {qs : List ExactCluster} (nums : Numbers g (length G) H X Y Ey B E k) (left : Summed (job .fonts) spans K D S g Y Ey B E is ds qs) where
     as-many-left : length qs ≡ length G
     as-many-left = sym (length-map qs (exact .index)) ∙ ap length (left .indexes) ∙ length-map G (λ (g : Group). g .first .index)
 
     abbrev Ex : ℕ
     Ex = 9 * (length G * X)
 
-    shifts : Shifted D S Y (56 * Y) X Ex (left .cells) (moved ds) (movedExactly qs)
+    shifts : Shifted D S Y Ey X Ex (left .cells) (moved ds) (movedExactly qs)
     shifts =
         marked-shifted job (c .text) offset
-        (subst (λ (n : ℕ). Shifted D S Y (56 * Y) X (9 * (n * X)) (left .cells) (turnShifts rounded (job .mode) (resolveRelativeShifts rounded job (c .text) offset ds)) (movedExactly qs)) as-many-left
+        (subst (λ (n : ℕ). Shifted D S Y Ey X (9 * (n * X)) (left .cells) (turnShifts rounded (job .mode) (resolveRelativeShifts rounded job (c .text) offset ds)) (movedExactly qs)) as-many-left
         (shifted (frame .scale) (product (unitsOf (job .fonts)) * K) (sym (mul-assoc (product (unitsOf (job .fonts))) K 2)) job (c .text) offset dxs dys (subst (λ (n : ℕ). n ≤ 1024) (sym as-many-left) (le-trans (gi .count) (gi .few))) (shifts-fit sizes)
         (le-of-eq (ap (λ (l : List ℕ). shiftMass D (job .dx) (c .text) offset l + shiftMass D (job .dy) (c .text) offset l) (left .indexes))) (left .lined)))
 
@@ -214,7 +215,7 @@ module _ (job : Job) (c : Chunk) (offset : ℕ) (gs : List Glyph) (fonts : All F
         go (covered z) = covered (le-trans z (nums .least))
 
     abbrev Eo : ℕ
-    Eo = offsetError B E g X Ex Y (56 * Y)
+    Eo = offsetError B E g X Ex Y Ey
 
     near : {d : Cluster} {q : ExactCluster} → Offset D S (6 * M) Eo d q → Near (d .x) (q .x) (bound k)
     near o = track-near (2 ^ k) (pow-pos k) (o .x) (reads-as ((g + 3) * (H + X)) 0 (whole (g + 3) (H + X)) (reads-mul (pos (g + 3)) (total .reads))) (nums .distance)
@@ -227,7 +228,7 @@ module _ (job : Job) (c : Chunk) (offset : ℕ) (gs : List Glyph) (fonts : All F
     all-near (AllPairs.more o os) = AllPairs.more (record { index = o .index; collapsed = o .collapsed; near = near o }) (all-near os)
 
     within : Within (bound k) ds qs
-    within = all-near (offsets (frame .scale) Y (56 * Y) X Ex B E g (nums .advances) (room sizes nums) (fits sizes nums) (c .anchor) absorbs shifts (shifted-indexes shifts) (left .mass) (left .error) (left .few))
+    within = all-near (offsets (frame .scale) Y Ey X Ex B E g (nums .advances) (room sizes nums) (fits sizes nums) (c .anchor) absorbs shifts (shifted-indexes shifts) (left .mass) (left .error) (left .few))
 
   -- ---- step 6, with a text length and without one
   module _ (ds : List Cluster) (e : adjustedClusters job c gs ≡ given ds) where
@@ -246,7 +247,7 @@ module _ (job : Job) (c : Chunk) (offset : ℕ) (gs : List Glyph) (fonts : All F
     unfolding adjustedClusters applyLengthAdjust
     plain-within plain =
         subst₂ (Within (bound 20)) unchanged (sym (plain-fractions spans plain fractions))
-        (within (plain-numbers sizes) (subst (λ (l : List ℕ). Summed (job .fonts) spans K D S g 0 H ((9 * g + 37) * H) l floats fractions) indexes-of (plain-summed spans frame beside counts few (omega (arith, bodies)))))
+        (within (plain-numbers sizes) (subst (λ (l : List ℕ). Summed (job .fonts) spans K D S g 0 0 H (spacedCost g * H) l floats fractions) indexes-of (plain-summed spans frame beside counts few (omega (arith, bodies)))))
       where
         unchanged : floats ≡ ds
         unchanged = cc (plain-floats spans plain floats)

@@ -1,8 +1,9 @@
 -- Step 6 over all spans of a chunk: the masses of the advances add up to at most 3 times that of what they are made of, and their errors to at most
--- 56 g + 46 times that, where g glyphs are counted. Assumes nothing.
+-- 67 g + 159 times that, where g glyphs are counted. Assumes nothing.
 use Prim.Native.Nat.{ℕ, zero, suc, _+_, _-_, _*_, _^_, _≤_, _<_}
 use mathlib.Core.Path.{_≡_, refl, sym, ap, ap₂, _∙_, subst, subst₂}
-use mathlib.Core.Bool.{Bool, true, false, cond, _&&_}
+use mathlib.Core.Bool.{Bool, true, false, not, cond, _&&_}
+use mathlib.Core.Logic.{_⊎_, inl, inr}
 use mathlib.Core.List.{List, [], _∷_, map, foldl}
 use native.Mathlib.Nat.{add-zero, add-assoc, le-refl, le-trans, mul-le-mul-right, mul-le-mul-left, mul-assoc, mul-left-comm}
 use native.Mathlib.Omega.{arith}
@@ -22,34 +23,35 @@ use Rattle.labels.specs.declared.Cluster.{Cluster}
 use Rattle.labels.specs.Outcome.{Outcome, refused, given}
 use Rattle.labels.specs.Lists.{modify, all, atOr}
 use Rattle.labels.specs.Single.{_/ᶠ_, +0, isZero, thousandth}
-use Rattle.labels.specs.Job.{hasLength, adjustSpacing}
+use Rattle.labels.specs.Job.{hasLength, adjustSpacingAndGlyphs, spreads}
 use Rattle.labels.specs.Check.{ordered}
-use Rattle.labels.specs.LengthAdjust.{clusterIndexes, sumAt, spacingFactor, adjustSpacingOf}
+use Rattle.labels.specs.LengthAdjust.{clusterIndexes, sumAt, spacingFactor, takenOf, adjustSpacingOf}
 use Rattle.labels.specs.ClusterParts.{withScale}
 use Rattle.labels.specs.Cluster.{rounded, widthOf, scaledBy, adjustGlyphsOf, adjustSpan}
 use Rattle.labels.specs.Exact.{ExactCluster, exact, AllPairs, adjustSpanExactly}
+use Rattle.exact.proofs.Costs.{spacedCost, amountCost, amountsCost, advancesCost}
 use Rattle.exact.proofs.Products.{product}
 use Rattle.exact.proofs.Formed.{Frame}
 use Rattle.exact.proofs.Spaced.{SpanIn, glyphPart, wordPart, Spaced}
 use Rattle.exact.proofs.Places.{marksFrom, marked, pick, atMarks, adjusted-at}
-use Rattle.exact.proofs.Adjusted.{Cell, sumOf, set, Beside, Lined, Unset, unset, setCell, set-A, set-E, set-B, same-B, set-lined}
-use Rattle.exact.proofs.Factor.{Factor, factor, float-at, marked-few, picked-sum}
+use Rattle.exact.proofs.Adjusted.{Cell, sumOf, set, Beside, Lined, Unset, unset, part, cost, setCell, set-A, set-E, set-B, same-B, parts-below, costs-below, later, set-lined}
+use Rattle.exact.proofs.Factor.{Factor, factor, float-at, picked-sum}
 
 -- ---- what the advances are made of, and where the spans are
 
 pub record Adjusted (fonts : List Font) (spans : List Span) (K D S g from H B L : ℕ) (is : List ℕ) (cs : List Cluster) (qs : List ExactCluster) : Type 0 where
   pub cells : List Cell
-  pub lined : Lined fonts spans K D S from H cells cs qs
+  pub lined : Lined fonts spans K D S from H (amountCost g * H) cells cs qs
   pub indexes : map (exact .index) qs ≡ is
   pub counts : All (λ q. length (q .group .glyphs) ≤ g) qs
   pub bodies : sumOf (λ k. k .B) cells ≡ B
   pub masses : sumOf (set (λ k. k .a)) cells ≤ 3 * (sumOf (set (λ k. k .B)) cells + L)
-  pub errors : sumOf (set (λ k. k .e)) cells ≤ (56 * g + 46) * (sumOf (set (λ k. k .B)) cells + L)
+  pub errors : sumOf (set (λ k. k .e)) cells ≤ advancesCost g * (sumOf (set (λ k. k .B)) cells + L)
   pub few : length cells ≤ g
 
 -- the divisor of a span's text length: the clusters that take part, less 1
 unfoldable pub divisor : List ℕ → Span → ℕ
-divisor is s = let n = marked (marksFrom s [] is) in cond (hasLength s && eqb (s .adjust) adjustSpacing && ltb 1 n) (n - 1) 1
+divisor is s = let n = marked (marksFrom s [] is) in cond (spreads s && ltb 1 n) (n - 1) 1
 
 -- a step that is not refused gives its value
 not-refused : {A : Type 0} (b : Bool) (n : ℕ) (x y : A) → cond b (refused n) (given x) ≡ given y → x ≡ y
@@ -58,8 +60,8 @@ not-refused false n x y e = cc
 
 -- ---- scaling changes neither width nor advance
 
-module _ {fonts : List Font} {spans : List Span} {K D S from H : ℕ} where
-  scale-one : {k : Cell} {c : Cluster} {q : ExactCluster} (f : Float) → Beside fonts spans K D S from H k c q → Beside fonts spans K D S from H k (withScale f c) q
+module _ {fonts : List Font} {spans : List Span} {K D S from H U : ℕ} where
+  scale-one : {k : Cell} {c : Cluster} {q : ExactCluster} (f : Float) → Beside fonts spans K D S from H U k c q → Beside fonts spans K D S from H U k (withScale f c) q
   scale-one f b =
       record {
         group = b .group;
@@ -76,65 +78,36 @@ module _ {fonts : List Font} {spans : List Span} {K D S from H : ℕ} where
         past = b .past;
       }
 
-  scale-at : {ks : List Cell} {cs : List Cluster} {qs : List ExactCluster} (f : Float) → Lined fonts spans K D S from H ks cs qs → (i : ℕ)
-      → Lined fonts spans K D S from H ks (modify (withScale f) cs i) qs
+  scale-at : {ks : List Cell} {cs : List Cluster} {qs : List ExactCluster} (f : Float) → Lined fonts spans K D S from H U ks cs qs → (i : ℕ)
+      → Lined fonts spans K D S from H U ks (modify (withScale f) cs i) qs
   unfolding modify
   scale-at f Lined.none i = Lined.none
   scale-at f (Lined.more b l) zero = Lined.more (scale-one f b) l
   scale-at f (Lined.more b l) (suc i) = Lined.more b (scale-at f l i)
 
-  scale-all : {ks : List Cell} {cs : List Cluster} {qs : List ExactCluster} (f : Float) → Lined fonts spans K D S from H ks cs qs → (is : List ℕ)
-      → Lined fonts spans K D S from H ks (foldl (modify (withScale f)) cs is) qs
+  scale-all : {ks : List Cell} {cs : List Cluster} {qs : List ExactCluster} (f : Float) → Lined fonts spans K D S from H U ks cs qs → (is : List ℕ)
+      → Lined fonts spans K D S from H U ks (foldl (modify (withScale f)) cs is) qs
   scale-all f l [] = l
   scale-all f l (i ∷ is) = scale-all f (scale-at f l i) is
 
-  scaled : {ks : List Cell} {cs : List Cluster} {qs : List ExactCluster} (f : Float) → Lined fonts spans K D S from H ks cs qs → (is : List ℕ)
-      → Lined fonts spans K D S from H ks (scaledBy f cs is) qs
+  scaled : {ks : List Cell} {cs : List Cluster} {qs : List ExactCluster} (f : Float) → Lined fonts spans K D S from H U ks cs qs → (is : List ℕ)
+      → Lined fonts spans K D S from H U ks (scaledBy f cs is) qs
   unfolding scaledBy
   scaled {ks} {cs} {qs} f l is = go (lt f thousandth)
     where
-      go : (b : Bool) → Lined fonts spans K D S from H ks (cond b cs (foldl (modify (withScale f)) cs is)) qs
+      go : (b : Bool) → Lined fonts spans K D S from H U ks (cond b cs (foldl (modify (withScale f)) cs is)) qs
       go true = l
       go false = scale-all f l is
 
-  glyphs-adjusted : {ks : List Cell} {cs : List Cluster} {qs : List ExactCluster} (s : Span) → Lined fonts spans K D S from H ks cs qs → (is : List ℕ) (ds : List Cluster)
-      → adjustGlyphsOf s cs is ≡ given ds → Lined fonts spans K D S from H ks ds qs
+  glyphs-adjusted : {ks : List Cell} {cs : List Cluster} {qs : List ExactCluster} (s : Span) → Lined fonts spans K D S from H U ks cs qs → (is : List ℕ) (ds : List Cluster)
+      → adjustGlyphsOf s cs is ≡ given ds → Lined fonts spans K D S from H U ks ds qs
   unfolding adjustGlyphsOf
-  glyphs-adjusted {ks} {cs} {qs} s l [] ds e = subst (λ (ds : List Cluster). Lined fonts spans K D S from H ks ds qs) (cc) l
+  glyphs-adjusted {ks} {cs} {qs} s l [] ds e = subst (λ (ds : List Cluster). Lined fonts spans K D S from H U ks ds qs) (cc) l
   glyphs-adjusted {ks} {cs} {qs} s l (i ∷ is) ds e =
-      subst (λ (ds : List Cluster). Lined fonts spans K D S from H ks ds qs) (not-refused (all (λ (k : ℕ). isZero (atOr +0 widthOf cs k)) (i ∷ is)) 9 _ ds e)
+      subst (λ (ds : List Cluster). Lined fonts spans K D S from H U ks ds qs) (not-refused (all (λ (k : ℕ). isZero (atOr +0 widthOf cs k)) (i ∷ is)) 9 _ ds e)
       (scaled (s .length /ᶠ sumAt rounded widthOf cs (i ∷ is)) l (i ∷ is))
 
-  -- the next span begins further on
-  later-one : {k : Cell} {c : Cluster} {q : ExactCluster} (to : ℕ) → from ≤ to → Beside fonts spans K D S from H k c q → Beside fonts spans K D S to H k c q
-  later-one to h b =
-      record {
-        group = b .group;
-        glyphs = b .glyphs;
-        body = b .body;
-        index = b .index;
-        collapsed = b .collapsed;
-        width = b .width;
-        advance = b .advance;
-        spacing = b .spacing;
-        shiftX = b .shiftX;
-        shiftY = b .shiftY;
-        fresh = b .fresh;
-        past = λ e. omega (arith, b .past e);
-      }
-
-  later : {ks : List Cell} {cs : List Cluster} {qs : List ExactCluster} (to : ℕ) → from ≤ to → Lined fonts spans K D S from H ks cs qs → Lined fonts spans K D S to H ks cs qs
-  later to h Lined.none = Lined.none
-  later to h (Lined.more b l) = Lined.more (later-one to h b) (later to h l)
-
 -- ---- a span
-
-glyphs-below : {fonts : List Font} {spans : List Span} {K D S from H : ℕ} {ks : List Cell} {cs : List Cluster} {qs : List ExactCluster} (bs : List Bool) → Lined fonts spans K D S from H ks cs qs
-    → sumOf (λ k. k .A) (pick bs ks) ≤ sumOf (λ k. k .B) (pick bs ks)
-glyphs-below [] l = le-refl 0
-glyphs-below (b ∷ bs) Lined.none = le-refl 0
-glyphs-below (true ∷ bs) (Lined.more b l) = omega (arith, glyphs-below bs l, b .glyphs, b .body)
-glyphs-below (false ∷ bs) (Lined.more b l) = glyphs-below bs l
 
 indexes-at : (f : ExactCluster → ExactCluster) → ((q : ExactCluster) → exact .index (f q) ≡ exact .index q) → (bs : List Bool) (qs : List ExactCluster) → map (exact .index) (atMarks f bs qs) ≡ map (exact .index) qs
 indexes-at f h [] qs = refl
@@ -159,7 +132,7 @@ module _ {fonts : List Font} {spans : List Span} {K D S g : ℕ} (frame : Frame 
   len = sizeOf (s .length) * D
 
   -- where no advance changes
-  untouched : (ds : List Cluster) → Lined fonts spans K D S from H (a .cells) ds qs → Adjusted fonts spans K D S g (s .end) H B (L + len) is ds qs
+  untouched : (ds : List Cluster) → Lined fonts spans K D S from H (amountCost g * H) (a .cells) ds qs → Adjusted fonts spans K D S g (s .end) H B (L + len) is ds qs
   untouched ds l =
       record {
         cells = a .cells;
@@ -168,7 +141,7 @@ module _ {fonts : List Font} {spans : List Span} {K D S g : ℕ} (frame : Frame 
         counts = a .counts;
         bodies = a .bodies;
         masses = omega (arith, a .masses);
-        errors = go _ _ (56 * g + 46) (a .errors);
+        errors = go _ _ (advancesCost g) (a .errors);
         few = a .few;
       }
     where
@@ -178,9 +151,9 @@ module _ {fonts : List Font} {spans : List Span} {K D S g : ℕ} (frame : Frame 
   abbrev marks : List Bool
   marks = marksFrom s [] (map (exact .index) qs)
 
-  -- the masses of the clusters that take part: of their glyphs, and with their spacing
-  abbrev glyphs : ℕ
-  glyphs = sumOf (λ k. k .A) (pick marks (a .cells))
+  -- the masses of the clusters that take part: of what is brought to the length, and of all that they are made of
+  abbrev taken : ℕ
+  taken = sumOf (part s) (pick marks (a .cells))
 
   abbrev bodies : ℕ
   bodies = sumOf (λ k. k .B) (pick marks (a .cells))
@@ -188,67 +161,64 @@ module _ {fonts : List Font} {spans : List Span} {K D S g : ℕ} (frame : Frame 
   none-set : Unset marks (a .cells)
   none-set = unset s [] (a .lined) before
 
-  some : len + glyphs ≤ H
-  some = omega (arith, glyphs-below marks (a .lined), picked-sum (λ k. k .B) none-set, a .bodies)
+  some : len + taken ≤ H
+  some = omega (arith, parts-below frame s none-set (a .lined), picked-sum (λ k. k .B) none-set, a .bodies)
 
-  room : len + glyphs ≤ S
+  room : len + taken ≤ S
   room = go (unit * D) some H-small (frame .scale .large)
     where
-      go : (z : ℕ) → len + glyphs ≤ H → H ≤ 2 ^ 48 * z → 2 ^ 50 * z ≤ S → len + glyphs ≤ S
+      go : (z : ℕ) → len + taken ≤ H → H ≤ 2 ^ 48 * z → 2 ^ 50 * z ≤ S → len + taken ≤ S
       go z h i j = omega arith
 
   spread : (K' : ℕ) → (1 < marked (marksFrom s [] is) → K ≡ (marked (marksFrom s [] is) - 1) * K')
       → Adjusted fonts spans K D S g (s .end) H B (L + len) is (adjustSpacingOf rounded s cs) (adjustSpacingOf exact s qs)
   spread K' e =
       subst₂ (λ (ds : List Cluster) (rs : List ExactCluster). Adjusted fonts spans K D S g (s .end) H B (L + len) is ds rs)
-      (sym (float-at frame s (ins .length) (a .lined) before few)) (sym (adjusted-at exact s qs))
+      (sym (float-at frame s (ins .length) (a .lined) before (a .counts) (a .few) g-few)) (sym (adjusted-at exact s qs))
       (record {
-        cells = atMarks (setCell (x .f) (x .E)) marks (a .cells);
-        lined = set-lined frame s (x .track) (le-trans (x .mass) some) (le-trans (x .error) (mul-le-mul-left 56 some)) (x .room) H-small before order [] (a .lined);
+        cells = atMarks (setCell s (x .f) (x .E)) marks (a .cells);
+        lined = set-lined frame s (x .track) (le-trans (x .mass) some) (le-trans (x .error) (mul-le-mul-left (amountCost g) some)) (x .room) H-small before order [] (a .lined);
         indexes = indexes-at _ (λ q. refl) marks qs ∙ a .indexes;
         counts = counts-at _ (λ q h. h) marks (a .counts);
-        bodies = same-B (x .f) (x .E) none-set ∙ a .bodies;
-        masses = rw (set-A (x .f) (x .E) none-set, set-B (x .f) (x .E) none-set) (mass-bound _ _ glyphs bodies _ (a .masses) (glyphs-below marks (a .lined)) (x .total));
+        bodies = same-B s (x .f) (x .E) none-set ∙ a .bodies;
+        masses = rw (set-A s (x .f) (x .E) none-set, set-B s (x .f) (x .E) none-set) (mass-bound _ _ taken bodies _ (a .masses) (parts-below frame s none-set (a .lined)) (x .total));
         errors =
-            rw (set-E (x .f) (x .E) none-set, set-B (x .f) (x .E) none-set)
-            (error-bound (marked marks) (x .f) (x .E) glyphs bodies _ _ (a .errors) (glyphs-below marks (a .lined)) (x .total)
-            (le-trans (mul-le-mul-left (marked marks) (x .error)) (mul-le-mul-right (56 * (len + glyphs)) (le-trans (marked-few none-set) (a .few)))));
-        few = subst (λ (n : ℕ). n ≤ g) (sym (length-at (setCell (x .f) (x .E)) marks (a .cells))) (a .few);
+            rw (set-E s (x .f) (x .E) none-set, set-B s (x .f) (x .E) none-set)
+            (error-bound (marked marks) (x .f) (x .E) taken bodies (sumOf (cost s) (pick marks (a .cells))) _ _ (a .errors) (parts-below frame s none-set (a .lined)) (costs-below frame s g none-set (a .counts) (a .lined)) (x .total) (x .errors) (x .two));
+        few = subst (λ (n : ℕ). n ≤ g) (sym (length-at (setCell s (x .f) (x .E)) marks (a .cells))) (a .few);
       })
     where
-      few : length (a .cells) ≤ 1024
-      few = le-trans (a .few) g-few
-
-      x : Factor D S (len + glyphs) (marked marks)
-          (spacingFactor rounded (s .length) (foldl (λ (w : Float) (c : Cluster). rounded ._⊕_ w (c .width)) (rounded .nought) (pick marks cs)) (marked marks))
-          (spacingFactor exact (s .length) (foldl (λ (w : Frac) (q : ExactCluster). exact ._⊕_ w (q .width)) (exact .nought) (pick marks qs)) (marked marks))
-      x = factor frame s (ins .length) (a .lined) before few K' (subst (λ (is : List ℕ). 1 < marked (marksFrom s [] is) → K ≡ (marked (marksFrom s [] is) - 1) * K') (sym (a .indexes)) e) room
+      x : Factor D S g (len + taken) (marked marks)
+          (spacingFactor rounded (s .length) (foldl (λ (w : Float) (c : Cluster). rounded ._⊕_ w (takenOf rounded s c)) (rounded .nought) (pick marks cs)) (marked marks))
+          (spacingFactor exact (s .length) (foldl (λ (w : Frac) (q : ExactCluster). exact ._⊕_ w (takenOf exact s q)) (exact .nought) (pick marks qs)) (marked marks))
+      x = factor frame s (ins .length) (a .lined) before (a .counts) (a .few) g-few K' (subst (λ (is : List ℕ). 1 < marked (marksFrom s [] is) → K ≡ (marked (marksFrom s [] is) - 1) * K') (sym (a .indexes)) e) room
 
       mass-bound : (sa sb A Bp nf : ℕ) → sa ≤ 3 * (sb + L) → A ≤ Bp → nf ≤ 2 * (len + A) → sa + (A + nf) ≤ 3 * (sb + Bp + (L + len))
       mass-bound sa sb A Bp nf h i j = omega arith
 
-      error-bound : (n f E A Bp se sb : ℕ) → se ≤ (56 * g + 46) * (sb + L) → A ≤ Bp → n * f ≤ 2 * (len + A) → n * E ≤ g * (56 * (len + A))
-          → se + (28 * A + n * (E + 9 * f)) ≤ (56 * g + 46) * (sb + Bp + (L + len))
-      error-bound n f E A Bp se sb h i j k = omega (arith, mul-le-mul-left g i)
+      error-bound : (n f E A Bp D se sb : ℕ) → se ≤ advancesCost g * (sb + L) → A ≤ Bp → D ≤ spacedCost g * A → n * f ≤ 2 * (len + A) → n * E ≤ amountsCost g * (len + A) → (E ≡ 0) ⊎ (2 ≤ g)
+          → se + (D + 9 * A + n * (E + 9 * f)) ≤ advancesCost g * (sb + Bp + (L + len))
+      error-bound n f E A Bp D se sb h i d j k (inl z) = omega (arith, mul-le-mul-left g i, ap (λ (m : ℕ). n * m) z)
+      error-bound n f E A Bp D se sb h i d j k (inr z) = omega (arith, mul-le-mul-left g i, mul-le-mul-right (len + A) z)
 
   -- the span, whatever it asks for; K' is what K has beyond its divisor
   step : (K' : ℕ) → K ≡ divisor is s * K' → (ds : List Cluster) → adjustSpan (given cs) s ≡ given ds
       → Adjusted fonts spans K D S g (s .end) H B (L + len) is ds (adjustSpanExactly qs s)
   unfolding divisor adjustSpan adjustSpanExactly
-  step K' k ds e = go (hasLength s) (eqb (s .adjust) adjustSpacing) e k
+  step K' k ds e = go (hasLength s) (eqb (s .adjust) adjustSpacingAndGlyphs) e k
     where
       n : ℕ
       n = marked (marksFrom s [] is)
 
-      go : (h p : Bool) → cond h (cond p (given (adjustSpacingOf rounded s cs)) (adjustGlyphsOf s cs (clusterIndexes rounded s cs))) (given cs) ≡ given ds
-          → K ≡ cond (h && p && ltb 1 n) (n - 1) 1 * K'
-          → Adjusted fonts spans K D S g (s .end) H B (L + len) is ds (cond (h && p) (adjustSpacingOf exact s qs) qs)
-      go true true e k =
+      go : (h p : Bool) → cond h (cond p (adjustGlyphsOf s cs (clusterIndexes rounded s cs)) (given (adjustSpacingOf rounded s cs))) (given cs) ≡ given ds
+          → K ≡ cond (h && not p && ltb 1 n) (n - 1) 1 * K'
+          → Adjusted fonts spans K D S g (s .end) H B (L + len) is ds (cond (h && not p) (adjustSpacingOf exact s qs) qs)
+      go true false e k =
           subst (λ (ds : List Cluster). Adjusted fonts spans K D S g (s .end) H B (L + len) is ds (adjustSpacingOf exact s qs)) (cc)
           (spread K' (λ some. rw (is-true (ltb 1 n) (lt→ltb 1 n some)) at k))
-      go true false e k = untouched ds (glyphs-adjusted s (a .lined) (clusterIndexes rounded s cs) ds e)
-      go false true e k = untouched ds (subst (λ (ds : List Cluster). Lined fonts spans K D S from H (a .cells) ds qs) (cc) (a .lined))
-      go false false e k = untouched ds (subst (λ (ds : List Cluster). Lined fonts spans K D S from H (a .cells) ds qs) (cc) (a .lined))
+      go true true e k = untouched ds (glyphs-adjusted s (a .lined) (clusterIndexes rounded s cs) ds e)
+      go false true e k = untouched ds (subst (λ (ds : List Cluster). Lined fonts spans K D S from H (amountCost g * H) (a .cells) ds qs) (cc) (a .lined))
+      go false false e k = untouched ds (subst (λ (ds : List Cluster). Lined fonts spans K D S from H (amountCost g * H) (a .cells) ds qs) (cc) (a .lined))
 
 -- ---- all spans
 
@@ -301,12 +271,12 @@ module _ {fonts : List Font} (spans : List Span) {K D S : ℕ} (frame : Frame fo
         A = glyphPart fonts spans K D (q .group);
         B = wordPart fonts spans K D (q .group);
         a = wordPart fonts spans K D (q .group);
-        e = (9 * length (q .group .glyphs) + 37) * wordPart fonts spans K D (q .group);
+        e = spacedCost (length (q .group .glyphs)) * wordPart fonts spans K D (q .group);
         done = false;
       }
 
-  beside-first : {H : ℕ} {c : Cluster} {q : ExactCluster} → Spaced spans frame c q → Beside fonts spans K D S 0 H (cellOf q) c q
-  beside-first {H} (i, a) =
+  beside-first : {H U : ℕ} {c : Cluster} {q : ExactCluster} → Spaced spans frame c q → Beside fonts spans K D S 0 H U (cellOf q) c q
+  beside-first {H} {U} (i, a) =
       record {
         group = i;
         glyphs = refl;
@@ -315,14 +285,14 @@ module _ {fonts : List Font} (spans : List Span) {K D S : ℕ} (frame : Frame fo
         collapsed = a .collapsed;
         width = a .width;
         advance = track-lower 2 K (a .advance);
-        spacing = subst₂ (λ (x : Float) (y : Frac). Track D S 2 x y H (56 * H)) (sym (a .spacing .0)) (sym (a .spacing .1)) (track-zero (frame .scale) 2 H (56 * H));
+        spacing = subst₂ (λ (x : Float) (y : Frac). Track D S 2 x y H U) (sym (a .spacing .0)) (sym (a .spacing .1)) (track-zero (frame .scale) 2 H U);
         shiftX = a .shiftX;
         shiftY = a .shiftY;
-        fresh = λ e. (refl, refl);
+        fresh = λ e. (refl, refl, a .advance);
         past = λ e. never e;
       }
 
-  pub lined-first : {H : ℕ} {cs : List Cluster} {qs : List ExactCluster} → AllPairs (Spaced spans frame) cs qs → Lined fonts spans K D S 0 H (map cellOf qs) cs qs
+  pub lined-first : {H U : ℕ} {cs : List Cluster} {qs : List ExactCluster} → AllPairs (Spaced spans frame) cs qs → Lined fonts spans K D S 0 H U (map cellOf qs) cs qs
   lined-first AllPairs.none = Lined.none
   lined-first (AllPairs.more p ps) = Lined.more (beside-first p) (lined-first ps)
 
@@ -359,7 +329,7 @@ set-below f (k ∷ ks) = go (k .done) (set-below f ks)
     go false h = omega arith
 
 -- what is not set is its body
-fresh-masses : {fonts : List Font} {spans : List Span} {K D S from H : ℕ} {ks : List Cell} {cs : List Cluster} {qs : List ExactCluster} → Lined fonts spans K D S from H ks cs qs
+fresh-masses : {fonts : List Font} {spans : List Span} {K D S from H U : ℕ} {ks : List Cell} {cs : List Cluster} {qs : List ExactCluster} → Lined fonts spans K D S from H U ks cs qs
     → sumOf (λ k. k .a) ks + sumOf (set (λ k. k .B)) ks ≤ sumOf (set (λ k. k .a)) ks + sumOf (λ k. k .B) ks
 fresh-masses Lined.none = le-refl 0
 fresh-masses (Lined.more {k = k} {ks = ks} b l) = go (k .done) refl (fresh-masses l)
@@ -369,13 +339,13 @@ fresh-masses (Lined.more {k = k} {ks = ks} b l) = go (k .done) refl (fresh-masse
     go true e h = omega arith
     go false e h = omega (arith, b .fresh e .0)
 
-fresh-errors : {fonts : List Font} {spans : List Span} {K D S from H : ℕ} {ks : List Cell} {cs : List Cluster} {qs : List ExactCluster} (g : ℕ) → All (λ q. length (q .group .glyphs) ≤ g) qs → Lined fonts spans K D S from H ks cs qs
-    → sumOf (λ k. k .e) ks + (56 * g + 46) * sumOf (set (λ k. k .B)) ks ≤ sumOf (set (λ k. k .e)) ks + (56 * g + 46) * sumOf (λ k. k .B) ks
+fresh-errors : {fonts : List Font} {spans : List Span} {K D S from H U : ℕ} {ks : List Cell} {cs : List Cluster} {qs : List ExactCluster} (g : ℕ) → All (λ q. length (q .group .glyphs) ≤ g) qs → Lined fonts spans K D S from H U ks cs qs
+    → sumOf (λ k. k .e) ks + advancesCost g * sumOf (set (λ k. k .B)) ks ≤ sumOf (set (λ k. k .e)) ks + advancesCost g * sumOf (λ k. k .B) ks
 fresh-errors g All.none Lined.none = omega arith
 fresh-errors g (All.more {x = q} p ps) (Lined.more {k = k} {ks = ks} b l) = go (k .done) refl (fresh-errors g ps l)
   where
     C : ℕ
-    C = 56 * g + 46
+    C = 67 * g + 159
 
     go : (d : Bool) → k .done ≡ d → sumOf (λ k. k .e) ks + C * sumOf (set (λ k. k .B)) ks ≤ sumOf (set (λ k. k .e)) ks + C * sumOf (λ k. k .B) ks
         → k .e + sumOf (λ k. k .e) ks + C * (cond d (k .B) 0 + sumOf (set (λ k. k .B)) ks) ≤ cond d (k .e) 0 + sumOf (set (λ k. k .e)) ks + C * (k .B + sumOf (λ k. k .B) ks)
@@ -384,10 +354,10 @@ fresh-errors g (All.more {x = q} p ps) (Lined.more {k = k} {ks = ks} b l) = go (
 
 -- all advances together
 pub totals : {fonts : List Font} {spans : List Span} {K D S g from H B L : ℕ} {is : List ℕ} {cs : List Cluster} {qs : List ExactCluster} (a : Adjusted fonts spans K D S g from H B L is cs qs)
-    → (sumOf (λ k. k .a) (a .cells) ≤ 3 * (B + L)) × (sumOf (λ k. k .e) (a .cells) ≤ (56 * g + 46) * (B + L))
+    → (sumOf (λ k. k .a) (a .cells) ≤ 3 * (B + L)) × (sumOf (λ k. k .e) (a .cells) ≤ advancesCost g * (B + L))
 totals {g = g} {B = B} {L = L} a = (
   mass _ _ _ _ (fresh-masses (a .lined)) (a .masses) (set-below (λ k. k .B) (a .cells)) (a .bodies),
-  error (56 * g + 46) _ _ _ _ (fresh-errors g (a .counts) (a .lined)) (a .errors) (a .bodies),
+  error (advancesCost g) _ _ _ _ (fresh-errors g (a .counts) (a .lined)) (a .errors) (a .bodies),
 )
   where
     mass : (t sa sb b : ℕ) → t + sb ≤ sa + b → sa ≤ 3 * (sb + L) → sb ≤ b → b ≡ B → t ≤ 3 * (B + L)

@@ -1,10 +1,12 @@
 -- Demand 3 of document 01: for every accepted job the answer's offsets are near the exact ones. Assumes nothing.
+pub mod Costs
 pub mod Products
 pub mod Load
 pub mod Tracks
 pub mod Formed
 pub mod Spaced
 pub mod Places
+pub mod Share
 pub mod Adjusted
 pub mod Factor
 pub mod Lengths

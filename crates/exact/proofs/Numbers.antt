@@ -4,6 +4,7 @@ use Prim.Native.Nat.{ℕ, _+_, _*_, _^_, _≤_}
 use native.Mathlib.Nat.{le-trans, mul-le-mul-left, mul-le-mul-right}
 use native.Mathlib.Omega.{arith}
 use lib.Dec.{lit≤}
+use Rattle.exact.proofs.Costs.{spacedCost, amountCost, advancesCost}
 use Rattle.exact.proofs.Positions.{offsetError, reachMass}
 
 -- n clusters of g glyphs, in a chunk of s spans. T has the mass H + X: H of the clusters with their spacing and of the text lengths, X of the shifts.
@@ -15,20 +16,20 @@ pub record Sizes (S z g n s H X : ℕ) : Type 0 where
   pub spans : s ≤ 32
   pub total : H + X ≤ (g + 4 * n + s) * (2 ^ 28 * z)
 
--- Behind step 6 all advances together have the mass B and the error E, and a length spacing has Y and 56 Y: then step 7 places each cluster within
+-- Behind step 6 all advances together have the mass B and the error E, and a length spacing has Y and Ey: then step 7 places each cluster within
 -- (g + 3) × T ÷ 2 ^ k
-pub record Numbers (g n H X Y B E k : ℕ) : Type 0 where
+pub record Numbers (g n H X Y Ey B E k : ℕ) : Type 0 where
   pub advances : E + 9 * (g * B) ≤ 2 ^ 24 * B
   pub least : H + X ≤ reachMass B X Y
   pub most : reachMass B X Y ≤ 4 * (H + X)
   pub sharp : 2 ^ 18 ≤ 2 ^ k
-  pub distance : offsetError B E g X (9 * (n * X)) Y (56 * Y) * 2 ^ k ≤ 2 ^ 27 * ((g + 3) * (H + X))
+  pub distance : offsetError B E g X (9 * (n * X)) Y Ey * 2 ^ k ≤ 2 ^ 27 * ((g + 3) * (H + X))
 
 module _ {S z g n s H X : ℕ} (m : Sizes S z g n s H X) where
   -- ---- the two kinds of chunks
 
-  -- with a text length the error is at most (440 g + 1,027) H + (81 g + 198) X, and 512 (g + 3) (H + X) is allowed
-  pub length-numbers : Numbers g n H X H (3 * H) ((56 * g + 46) * H) 18
+  -- with a text length the error is at most (511 g + 1,533) H + (81 g + 198) X, and 512 (g + 3) (H + X) is allowed
+  pub length-numbers : Numbers g n H X H (amountCost g * H) (3 * H) (advancesCost g * H) 18
   length-numbers =
       record {
         advances = omega (arith, mul-le-mul-right H (m .glyphs));
@@ -39,7 +40,7 @@ module _ {S z g n s H X : ℕ} (m : Sizes S z g n s H X) where
       }
 
   -- without one it is at most (99 g + 319) H + (81 g + 198) X, and 128 (g + 3) (H + X) is allowed
-  pub plain-numbers : Numbers g n H X 0 H ((9 * g + 37) * H) 20
+  pub plain-numbers : Numbers g n H X 0 0 H (spacedCost g * H) 20
   plain-numbers =
       record {
         advances = omega (arith, mul-le-mul-right H (m .glyphs));
@@ -63,15 +64,15 @@ module _ {S z g n s H X : ℕ} (m : Sizes S z g n s H X) where
   pub shifts-fit : X ≤ S
   shifts-fit = omega (arith, far, m .large)
 
-  module _ {Y B E k : ℕ} (nums : Numbers g n H X Y B E k) where
+  module _ {Y Ey B E k : ℕ} (nums : Numbers g n H X Y Ey B E k) where
     pub fits : 6 * reachMass B X Y ≤ S
     fits = go (reachMass B X Y) (H + X) (nums .most) far
       where
         go : (r t : ℕ) → r ≤ 4 * t → t ≤ 5152 * (2 ^ 28 * z) → 6 * r ≤ S
         go r t h f = omega (arith, m .large)
 
-    pub room : offsetError B E g X (9 * (n * X)) Y (56 * Y) ≤ 2 ^ 24 * reachMass B X Y
-    room = go (offsetError B E g X (9 * (n * X)) Y (56 * Y)) (H + X) (reachMass B X Y) (nums .distance) (nums .least)
+    pub room : offsetError B E g X (9 * (n * X)) Y Ey ≤ 2 ^ 24 * reachMass B X Y
+    room = go (offsetError B E g X (9 * (n * X)) Y Ey) (H + X) (reachMass B X Y) (nums .distance) (nums .least)
       where
         go : (e t r : ℕ) → e * 2 ^ k ≤ 2 ^ 27 * ((g + 3) * t) → t ≤ r → e ≤ 2 ^ 24 * r
         go e t r d h = omega (arith, mul-le-mul-left e (nums .sharp), mul-le-mul-right t (m .glyphs))

@@ -11,7 +11,7 @@ use Rattle.labels.specs.declared.Span.{Span}
 use Rattle.labels.specs.Lists.{among, modify, atOr}
 use Rattle.labels.specs.Merge.{spanContains}
 use Rattle.labels.specs.Kind.{Kind, indexes}
-use Rattle.labels.specs.LengthAdjust.{placesFrom, clusterIndexes, spacingFactor, stretchedBy, adjustSpacingOf}
+use Rattle.labels.specs.LengthAdjust.{placesFrom, clusterIndexes, spacingFactor, takenOf, stretchedBy, adjustSpacingOf}
 
 -- which of the byte indexes take part; `seen` came before
 abbrev pub marksFrom : Span → List ℕ → List ℕ → List Bool
@@ -118,13 +118,13 @@ module _ (K : Kind) (s : Span) (cs : List (K .Cluster)) where
 
   -- what each gets
   abbrev pub factorOf : K .Num
-  factorOf = spacingFactor K (s .length) (foldl (λ (w : K .Num) (c : K .Cluster). K ._⊕_ w (K .width c)) (K .nought) (pick marksOf cs)) (marked marksOf)
+  factorOf = spacingFactor K (s .length) (foldl (λ (w : K .Num) (c : K .Cluster). K ._⊕_ w (takenOf K s c)) (K .nought) (pick marksOf cs)) (marked marksOf)
 
-  pub adjusted-at : adjustSpacingOf K s cs ≡ atMarks (stretchedBy K factorOf) marksOf cs
+  pub adjusted-at : adjustSpacingOf K s cs ≡ atMarks (stretchedBy K s factorOf) marksOf cs
   unfolding adjustSpacingOf
   adjusted-at =
-      ap (λ (w : K .Num). foldl (modify (stretchedBy K (spacingFactor K (s .length) w (length (clusterIndexes K s cs))))) cs (clusterIndexes K s cs))
-      (sum-places (K .index) s (K ._⊕_) (K .nought) (K .width) [] [] cs 0 refl (K .nought))
-      ∙ ap (λ (n : ℕ). foldl (modify (stretchedBy K (spacingFactor K (s .length) (foldl (λ (w : K .Num) (c : K .Cluster). K ._⊕_ w (K .width c)) (K .nought) (pick marksOf cs)) n))) cs (clusterIndexes K s cs))
+      ap (λ (w : K .Num). foldl (modify (stretchedBy K s (spacingFactor K (s .length) w (length (clusterIndexes K s cs))))) cs (clusterIndexes K s cs))
+      (sum-places (K .index) s (K ._⊕_) (K .nought) (takenOf K s) [] [] cs 0 refl (K .nought))
+      ∙ ap (λ (n : ℕ). foldl (modify (stretchedBy K s (spacingFactor K (s .length) (foldl (λ (w : K .Num) (c : K .Cluster). K ._⊕_ w (takenOf K s c)) (K .nought) (pick marksOf cs)) n))) cs (clusterIndexes K s cs))
       (length-places (K .index) s [] 0 (indexes K cs))
-      ∙ modify-places (K .index) s (stretchedBy K factorOf) [] [] cs 0 refl
+      ∙ modify-places (K .index) s (stretchedBy K s factorOf) [] [] cs 0 refl

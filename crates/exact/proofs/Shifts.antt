@@ -42,8 +42,8 @@ pub data Shifted (D S Y Ey X Ex : ℕ) : List Cell → List Cluster → List Exa
       → Shifted D S Y Ey X Ex (k ∷ ks) (c ∷ cs) (q ∷ qs)
 
 -- before any shift
-unshifted : {fonts : List Font} {spans : List Span} {K D S from H : ℕ} {ks : List Cell} {cs : List Cluster} {qs : List ExactCluster} (X Ex : ℕ) → Scale D S → Lined fonts spans K D S from H ks cs qs
-    → Shifted D S H (56 * H) X Ex ks cs qs
+unshifted : {fonts : List Font} {spans : List Span} {K D S from H U : ℕ} {ks : List Cell} {cs : List Cluster} {qs : List ExactCluster} (X Ex : ℕ) → Scale D S → Lined fonts spans K D S from H U ks cs qs
+    → Shifted D S H U X Ex ks cs qs
 unshifted X Ex sc Lined.none = nil
 unshifted {D = D} {S = S} X Ex sc (Lined.more b l) =
     cons
@@ -163,15 +163,15 @@ turned-shifts {D} {S} {Y} {Ey} {X} {Ex} {ks} {cs} {qs} mode l = go (eqb mode top
     go false = l
 
 -- n clusters, and the sizes of their dx and dy together at most X
-pub shifted : {fonts : List Font} {spans : List Span} {K D S from H X : ℕ} {ks : List Cell} {cs : List Cluster} {qs : List ExactCluster} → Scale D S → (u : ℕ) → D ≡ u * 2 → (job : Job) (text : List ℕ) (offset : ℕ)
+pub shifted : {fonts : List Font} {spans : List Span} {K D S from H U X : ℕ} {ks : List Cell} {cs : List Cluster} {qs : List ExactCluster} → Scale D S → (u : ℕ) → D ≡ u * 2 → (job : Job) (text : List ℕ) (offset : ℕ)
     → All Input (job .dx) → All Input (job .dy) → length qs ≤ 1024 → X ≤ S
     → shiftMass D (job .dx) text offset (map (exact .index) qs) + shiftMass D (job .dy) text offset (map (exact .index) qs) ≤ X
-    → Lined fonts spans K D S from H ks cs qs
-    → Shifted D S H (56 * H) X (9 * (length qs * X)) ks (turnShifts rounded (job .mode) (resolveRelativeShifts rounded job text offset cs)) (turnShifts exact (job .mode) (resolveRelativeShifts exact job text offset qs))
+    → Lined fonts spans K D S from H U ks cs qs
+    → Shifted D S H U X (9 * (length qs * X)) ks (turnShifts rounded (job .mode) (resolveRelativeShifts rounded job text offset cs)) (turnShifts exact (job .mode) (resolveRelativeShifts exact job text offset qs))
 unfolding resolveRelativeShifts
-shifted {D = D} {S = S} {H = H} {X = X} {ks = ks} {cs = cs} {qs = qs} sc u even job text offset dxs dys few fits sum l =
+shifted {D = D} {S = S} {H = H} {U = U} {X = X} {ks = ks} {cs = cs} {qs = qs} sc u even job text offset dxs dys few fits sum l =
     turned-shifts (job .mode)
-    (subst (λ (is : List ℕ). Shifted D S H (56 * H) X Ex ks (foldl (shiftNext rounded job text offset) (record { x = +0; y = +0; clusters = cs }) (logicalOrder is) .clusters) (foldl (shiftNext exact job text offset) (record { x = 0ᵠ; y = 0ᵠ; clusters = qs }) order .clusters)) (sym (same-indexes l))
+    (subst (λ (is : List ℕ). Shifted D S H U X Ex ks (foldl (shiftNext rounded job text offset) (record { x = +0; y = +0; clusters = cs }) (logicalOrder is) .clusters) (foldl (shiftNext exact job text offset) (record { x = 0ᵠ; y = 0ᵠ; clusters = qs }) order .clusters)) (sym (same-indexes l))
     (shifts sc u even job text offset dxs dys (omega (arith, mul-le-mul-right X few)) fits order 0 0 0 0 (track-zero sc 2 0 0) (track-zero sc 2 0 0)
     (omega (arith, order-mass D (job .dx) text offset (map (exact .index) qs))) (omega (arith, order-mass D (job .dy) text offset (map (exact .index) qs))) steps steps (unshifted X Ex sc l)))
   where

@@ -29,6 +29,7 @@ use Rattle.labels.specs.Spacing.{settled, letterSpaced, nextLetterSpaced, apply
 use Rattle.labels.specs.ClusterParts.{withLine, collapsed}
 use Rattle.labels.specs.Cluster.{rounded, formGlyphClusters, turned, applyWritingMode}
 use Rattle.labels.specs.Exact.{ExactCluster, exact, exactCluster, AllPairs}
+use Rattle.exact.proofs.Costs.{spacedCost}
 use Rattle.exact.proofs.Load.{Load, load-zero, load-add, load-input}
 use Rattle.exact.proofs.Formed.{Frame, GlyphIn, glyphsMass, glyphs-load, advance-track, width-track}
 
@@ -306,7 +307,7 @@ module _ {fonts : List Font} (spans : List Span) {K D S : ℕ} (frame : Frame fo
   abbrev pub Spaced : Cluster → ExactCluster → Type 0
   Spaced c q =
       GroupIn fonts spans (q .group)
-      × Along D S K (glyphPart fonts spans K D (q .group)) (wordPart fonts spans K D (q .group)) ((9 * length (q .group .glyphs) + 37) * wordPart fonts spans K D (q .group)) c q
+      × Along D S K (glyphPart fonts spans K D (q .group)) (wordPart fonts spans K D (q .group)) (spacedCost (length (q .group .glyphs)) * wordPart fonts spans K D (q .group)) c q
 
   module _ (text : List ℕ) (c : Cluster) (q : ExactCluster) (i : GroupIn fonts spans (q .group))
       (a : Along D S K (glyphPart fonts spans K D (q .group)) (letterPart fonts spans K D (q .group)) ((9 * length (q .group .glyphs) + 28) * letterPart fonts spans K D (q .group)) c q) where
@@ -330,25 +331,25 @@ module _ {fonts : List Font} (spans : List Span) {K D S : ℕ} (frame : Frame fo
     word-is =
         ap₂ (λ (n k : ℕ). cond (isWordSeparatorAt text n) (rounded .withAdvance (add binary32 (c .advance) (spanAt spans k .word)) c) c) (a .index) (a .span)
 
-    added : Track D S (K * 2) (add binary32 (c .advance) word) (q .advance +ᵠ valueOf word) (before + sizeOf word * D) ((9 * count + 37) * (before + sizeOf word * D))
+    added : Track D S (K * 2) (add binary32 (c .advance) word) (q .advance +ᵠ valueOf word) (before + sizeOf word * D) (spacedCost count * (before + sizeOf word * D))
     added =
         track-weaken _ _ (le-refl (before + sizeOf word * D)) (cost before (sizeOf word * D) count)
         (track-add (before + sizeOf word * D) (a .advance) (track-input (frame .scale) (K * 2) _ word (frame .is) (i .span .word)) (le-refl (before + sizeOf word * D))
         (room before (sizeOf word * D) count (i .few)) (word-fits (q .group) i))
       where
-        cost : (l w m : ℕ) → (9 * m + 28) * l + 0 + 9 * (l + w) ≤ (9 * m + 37) * (l + w)
+        cost : (l w m : ℕ) → (9 * m + 28) * l + 0 + 9 * (l + w) ≤ spacedCost m * (l + w)
         cost l w m = omega arith
 
         room : (l w m : ℕ) → m ≤ 1024 → (9 * m + 28) * l + 0 ≤ 2 ^ 24 * (l + w)
         room l w m h = omega (arith, mul-le-mul-right l h)
 
-    kept-word : Track D S (K * 2) (c .advance) (q .advance) (before + sizeOf word * D) ((9 * count + 37) * (before + sizeOf word * D))
+    kept-word : Track D S (K * 2) (c .advance) (q .advance) (before + sizeOf word * D) (spacedCost count * (before + sizeOf word * D))
     kept-word = track-weaken _ _ (more before (sizeOf word * D)) (cost before (sizeOf word * D) count) (a .advance)
       where
         more : (l w : ℕ) → l ≤ l + w
         more l w = omega arith
 
-        cost : (l w m : ℕ) → (9 * m + 28) * l ≤ (9 * m + 37) * (l + w)
+        cost : (l w m : ℕ) → (9 * m + 28) * l ≤ spacedCost m * (l + w)
         cost l w m = omega arith
 
     word-one : Spaced (wordSpaced rounded text spans c) (wordSpaced exact text spans q)

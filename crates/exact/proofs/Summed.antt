@@ -15,16 +15,17 @@ use Rattle.labels.specs.Lists.{any}
 use Rattle.labels.specs.Job.{hasLength}
 use Rattle.labels.specs.Cluster.{adjustSpan}
 use Rattle.labels.specs.Exact.{ExactCluster, exact, adjustSpanExactly, AllPairs}
+use Rattle.exact.proofs.Costs.{spacedCost, amountCost, advancesCost}
 use Rattle.exact.proofs.Formed.{Frame}
 use Rattle.exact.proofs.Spaced.{Spaced, wordPart}
 use Rattle.exact.proofs.Adjusted.{Cell, sumOf, Lined}
 use Rattle.exact.proofs.Lengths.{Adjusted, cellOf, lined-first, bodiesMass, totals}
 
--- the advances have at most the mass B and the error E together, and a length spacing Y and 56 Y
-pub record Summed (fonts : List Font) (spans : List Span) (K D S g Y B E : ℕ) (is : List ℕ) (cs : List Cluster) (qs : List ExactCluster) : Type 0 where
+-- the advances have at most the mass B and the error E together, and a length spacing Y and Ey
+pub record Summed (fonts : List Font) (spans : List Span) (K D S g Y Ey B E : ℕ) (is : List ℕ) (cs : List Cluster) (qs : List ExactCluster) : Type 0 where
   pub from : ℕ
   pub cells : List Cell
-  pub lined : Lined fonts spans K D S from Y cells cs qs
+  pub lined : Lined fonts spans K D S from Y Ey cells cs qs
   pub indexes : map (exact .index) qs ≡ is
   pub mass : sumOf (λ k. k .a) cells ≤ B
   pub error : sumOf (λ k. k .e) cells ≤ E
@@ -33,7 +34,7 @@ pub record Summed (fonts : List Font) (spans : List Span) (K D S g Y B E : ℕ) 
 -- ---- with a text length
 
 pub adjusted-summed : {fonts : List Font} {spans : List Span} {K D S g from H B L : ℕ} {is : List ℕ} {cs : List Cluster} {qs : List ExactCluster} → Adjusted fonts spans K D S g from H B L is cs qs → B + L ≤ H
-    → Summed fonts spans K D S g H (3 * H) ((56 * g + 46) * H) is cs qs
+    → Summed fonts spans K D S g H (amountCost g * H) (3 * H) (advancesCost g * H) is cs qs
 adjusted-summed {g = g} {from = from} a h =
     record {
       from = from;
@@ -41,7 +42,7 @@ adjusted-summed {g = g} {from = from} a h =
       lined = a .lined;
       indexes = a .indexes;
       mass = le-trans (totals a .0) (mul-le-mul-left 3 h);
-      error = le-trans (totals a .1) (mul-le-mul-left (56 * g + 46) h);
+      error = le-trans (totals a .1) (mul-le-mul-left (advancesCost g) h);
       few = a .few;
     }
 
@@ -66,15 +67,15 @@ module _ {fonts : List Font} (spans : List Span) {K D S : ℕ} (frame : Frame fo
   masses [] = refl
   masses (q ∷ qs) = ap (λ (n : ℕ). wordPart fonts spans K D (q .group) + n) (masses qs)
 
-  errors : {g : ℕ} {qs : List ExactCluster} → All (λ q. length (q .group .glyphs) ≤ g) qs → sumOf (λ k. k .e) (map (cellOf spans frame) qs) ≤ (9 * g + 37) * bodiesMass spans frame qs
+  errors : {g : ℕ} {qs : List ExactCluster} → All (λ q. length (q .group .glyphs) ≤ g) qs → sumOf (λ k. k .e) (map (cellOf spans frame) qs) ≤ spacedCost g * bodiesMass spans frame qs
   errors All.none = omega arith
   errors {g} (All.more {x = q} p ps) = go (length (q .group .glyphs)) (wordPart fonts spans K D (q .group)) _ _ p (errors ps)
     where
-      go : (m b es bs : ℕ) → m ≤ g → es ≤ (9 * g + 37) * bs → (9 * m + 37) * b + es ≤ (9 * g + 37) * (b + bs)
+      go : (m b es bs : ℕ) → m ≤ g → es ≤ spacedCost g * bs → spacedCost m * b + es ≤ spacedCost g * (b + bs)
       go m b es bs h k = omega (arith, mul-le-mul-right b h)
 
   pub plain-summed : {g B : ℕ} {cs : List Cluster} {qs : List ExactCluster} → AllPairs (Spaced spans frame) cs qs → All (λ q. length (q .group .glyphs) ≤ g) qs → length qs ≤ g → bodiesMass spans frame qs ≤ B
-      → Summed fonts spans K D S g 0 B ((9 * g + 37) * B) (map (exact .index) qs) cs qs
+      → Summed fonts spans K D S g 0 0 B (spacedCost g * B) (map (exact .index) qs) cs qs
   plain-summed {g} {qs = qs} ps counts few h =
       record {
         from = 0;
@@ -82,6 +83,6 @@ module _ {fonts : List Font} (spans : List Span) {K D S : ℕ} (frame : Frame fo
         lined = lined-first spans frame ps;
         indexes = refl;
         mass = le-trans (le-of-eq (masses qs)) h;
-        error = le-trans (errors counts) (mul-le-mul-left (9 * g + 37) h);
+        error = le-trans (errors counts) (mul-le-mul-left (spacedCost g) h);
         few = subst (λ (n : ℕ). n ≤ g) (sym (length-map qs (cellOf spans frame))) few;
       }

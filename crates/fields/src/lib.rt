@@ -83,7 +83,7 @@ pub fn span_ok(fonts: usize, s: Span) -> bool
         & float_ok(s.word)
         & (s.fixed <= 1)
         & flagged_ok(s.fixed == 1, s.length)
-        & (s.adjust <= 1)
+        & (s.adjust <= 2)
         & (s.dominant <= 11)
         & (s.alignment <= 11)
         & (s.decorations <= 7)

@@ -15,7 +15,7 @@ use Rattle.labels.specs.Script.Tag.{tag}
 use Rattle.labels.specs.Exact.{ExactCluster, formedExactly, layoutExactly, glyphTotal, sizeTotal, allowed}
 use Rattle.labels.specs.Compute.{computed}
 use Rattle.labels.proofs.Seen.{whole, below, shown}
-use Rattle.labels.proofs.Jobs.{fontRow, wideRow, letterRow, fontSpan, spanRow, chunkRow, listsJob, plainJob, labelSpan, labelJob, plainVariant, lengthVariant, thirds, built}
+use Rattle.labels.proofs.Jobs.{fontRow, wideRow, letterRow, fontSpan, spanRow, chunkRow, listsJob, plainJob, labelSpan, labelJob, plainVariant, lengthVariant, thirds, mixed, built}
 
 -- ---- what is asked of a job's one chunk
 
@@ -97,7 +97,7 @@ unfolding minus
 unmoved = minus 28 ∷ minus 17 ∷ minus 10 ∷ []
 
 -- no text length: 6 × 33 ÷ 2 ^ 20, whatever the adjust byte says
-plain-label : map (λ (adjust : ℕ). compared (labelJob (lengthVariant 0 0 adjust [])) (asked 3 33 198 20 unmoved)) (0 ∷ 1 ∷ []) ≡ agreed ∷ agreed ∷ []
+plain-label : map (λ (adjust : ℕ). compared (labelJob (lengthVariant 0 0 adjust [])) (asked 3 33 198 20 unmoved)) (0 ∷ 1 ∷ 2 ∷ []) ≡ agreed ∷ agreed ∷ agreed ∷ []
 unfolding computed built seen unmoved
 plain-label = refl
 
@@ -110,6 +110,11 @@ collapsed-label = refl
 scaled-label : compared (labelJob (lengthVariant 1 (whole 48) 1 [])) (asked 3 81 486 18 unmoved) ≡ agreed
 unfolding computed built seen unmoved
 scaled-label = refl
+
+-- the natural length, 28, brought to 54: 13 for each, and 6 × 87 ÷ 2 ^ 18
+natural-label : compared (labelJob (lengthVariant 1 (whole 54) 2 [])) (asked 3 87 522 18 (minus 54 ∷ minus 30 ∷ minus 10 ∷ [])) ≡ agreed
+unfolding computed built seen
+natural-label = refl
 
 -- a text length of 0 is one
 length-of-zero : compared (labelJob (lengthVariant 1 0 0 [])) (asked 3 33 198 18 (minus 10 ∷ minus 12 ∷ minus 20 ∷ [])) ≡ agreed
@@ -138,6 +143,14 @@ single = refl
 thirds-exact : compared thirds (asked 4 90 630 18 (plus 0 ∷ (pos 40 over 3) ∷ (pos 80 over 3) ∷ plus 40 ∷ [])) ≡ agreed
 unfolding computed built seen
 thirds-exact = refl
+
+-- all adjust values in one chunk: (50 − 40) ÷ 3 for each width 10, nothing for the advances 11 and 11, (50 − 43) ÷ 3 for the advances 11, 11, 11, 10
+mixed-exact : compared mixed
+    (asked 10 240 3120 18
+    (plus 0 ∷ (pos 40 over 3) ∷ (pos 80 over 3) ∷ plus 40 ∷ (pos 160 over 3) ∷ (pos 193 over 3) ∷ (pos 226 over 3) ∷ (pos 266 over 3) ∷ plus 102 ∷ (pos 346 over 3) ∷ []))
+    ≡ agreed
+unfolding computed built seen
+mixed-exact = refl
 
 -- everything that T counts, some of it below zero, top to bottom and anchored in the middle. 4 glyphs of advances 10, −2, 4, 10, the first two of one
 -- cluster; letter spacing −1 and word spacing 2 for 3 clusters; dx 3, −4; dy 0, −5, 6; text length 54

@@ -122,7 +122,17 @@ unfoldable pub thirds : List ℕ
 thirds =
     plainJob [] [] (chunkRow 0 (65 ∷ 66 ∷ 67 ∷ 68 ∷ []) (spanRow 0 4 0 0 1 0x42480000 0 [] (letterRow 1 0 1 ∷ letterRow 2 1 1 ∷ letterRow 3 2 1 ∷ letterRow 4 3 1 ∷ []) ∷ []) ∷ [])
 
+-- ---- ten such letters with letter spacing 1, in spans that ask for text lengths by each adjust value: four by 0 to 50, two by 1 to 30, four by 2 to 50
+unfoldable pub mixed : List ℕ
+mixed =
+    plainJob [] [] (chunkRow 0 (65 ∷ 66 ∷ 67 ∷ 68 ∷ 69 ∷ 70 ∷ 71 ∷ 72 ∷ 73 ∷ 74 ∷ []) (
+    spanRow 0 4 0x3f800000 0 1 0x42480000 0 [] (letterRow 1 0 1 ∷ letterRow 2 1 1 ∷ letterRow 3 2 1 ∷ letterRow 4 3 1 ∷ letterRow 5 4 1 ∷ letterRow 6 5 1 ∷ letterRow 7 6 1 ∷ letterRow 8 7 1 ∷ letterRow 9 8 1 ∷ letterRow 10 9 1 ∷ [])
+    ∷ spanRow 4 6 0x3f800000 0 1 0x41f00000 1 [] []
+    ∷ spanRow 6 10 0x3f800000 0 1 0x42480000 2 [] []
+    ∷ []
+    ) ∷ [])
+
 -- ---- opens all of these, for computed tests
 unfoldable pub built : Unit {0}
-unfolding fontRow glyphRow wideRow letterRow floatList fontSpan spanRow plainSpan chunkRow recordRow listsJob jobRow plainJob labelSpan labelAt labelJob plainVariant lengthVariant thirds
+unfolding fontRow glyphRow wideRow letterRow floatList fontSpan spanRow plainSpan chunkRow recordRow listsJob jobRow plainJob labelSpan labelAt labelJob plainVariant lengthVariant thirds mixed
 built = tt

@@ -1,5 +1,5 @@
--- The label of document 01 and its variants P1 to P9, as one table that is computed from the job's bytes: what each changes, and what is
--- seen of its layout, in the rows and in the answer's bytes.
+-- The label of document 01, its variants P1 to P9 and document 02's natural length, as one table that is computed from the job's bytes: what each
+-- changes, and what is seen of its layout, in the rows and in the answer's bytes.
 use Prim.Native.Nat.{ℕ, suc}
 use mathlib.Core.Path.{_≡_, refl}
 use mathlib.Core.List.{List, [], _∷_, _++_, map}
@@ -12,7 +12,7 @@ use Rattle.labels.specs.Answer.{ChunkRow, ClusterRow, SpanRow, readAnswe
 use Rattle.labels.specs.Layout.{LaidChunk, layoutJob, layoutOf, rowsOf}
 use Rattle.labels.specs.Compute.{computed}
 use Rattle.labels.proofs.Seen.{bits, whole, below, -0, shown}
-use Rattle.labels.proofs.Jobs.{Variant, plainVariant, labelJob, built}
+use Rattle.labels.proofs.Jobs.{Variant, plainVariant, lengthVariant, labelJob, built}
 
 -- ---- what is seen of a layout: the lines that platelist prints, each cluster's with its scale, nudge, ascent and shift y besides
 
@@ -193,16 +193,32 @@ P9 =
           ∷ [];
     }
 
+-- text length 54, the natural length: advances 24, 20, 23, extent 54
+natural : Case
+natural =
+    record {
+      variant = lengthVariant 1 (whole 54) 2 [];
+      extent = whole 54;
+      expected =
+          (0 ∷ 3 ∷ whole 113 ∷ whole 50 ∷ [])
+          ∷ (0 ∷ 0 ∷ 0 ∷ whole 10 ∷ whole 24 ∷ below 54 ∷ 0 ∷ 0 ∷ whole 12 ∷ 0 ∷ [])
+          ∷ (1 ∷ 1 ∷ 0 ∷ whole 4 ∷ whole 20 ∷ below 30 ∷ 0 ∷ 0 ∷ whole 12 ∷ 0 ∷ [])
+          ∷ (2 ∷ 2 ∷ 0 ∷ whole 10 ∷ whole 23 ∷ below 10 ∷ 0 ∷ 0 ∷ whole 12 ∷ 0 ∷ [])
+          ∷ (0 ∷ 0 ∷ whole 1 ∷ whole 2 ∷ [])
+          ∷ (0 ∷ 0 ∷ whole 67 ∷ [])
+          ∷ [];
+    }
+
 table : List Case
-table = P1 ∷ P2 ∷ P3 ∷ P4 ∷ P5 ∷ P6 ∷ P7 ∷ P8 ∷ P9 ∷ []
+table = P1 ∷ P2 ∷ P3 ∷ P4 ∷ P5 ∷ P6 ∷ P7 ∷ P8 ∷ P9 ∷ natural ∷ []
 
 -- every row of the table holds: of the rows laid out, with their extent, and of the answer's bytes
 rows-right : map (λ (c : Case). laid (labelJob (c .variant))) table ≡ map (λ (c : Case). given (c .extent ∷ [], c .expected)) table
-unfolding computed built shown laid table P1 P2 P3 P4 P5 P6 P7 P8 P9
+unfolding computed built shown laid table P1 P2 P3 P4 P5 P6 P7 P8 P9 natural
 rows-right = refl
 
 bytes-right : map (λ (c : Case). written (labelJob (c .variant))) table ≡ map (λ (c : Case). given (c .expected)) table
-unfolding computed built shown written table P1 P2 P3 P4 P5 P6 P7 P8 P9
+unfolding computed built shown written table P1 P2 P3 P4 P5 P6 P7 P8 P9 natural
 bytes-right = refl
 
 -- the label's lines as document 01 prints them, a cluster's first six numbers

@@ -15,7 +15,7 @@ use Rattle.labels.specs.Layout.{layoutOf, bufferAfter}
 use Rattle.labels.specs.Exact.{ExactCluster, AllPairs, Near, NearAnswer}
 use Rattle.labels.specs.Compute.{computed}
 use Rattle.labels.proofs.Seen.{whole, below, shown}
-use Rattle.labels.proofs.Jobs.{wideRow, letterRow, plainSpan, chunkRow, plainJob, labelAt, plainVariant, lengthVariant, thirds, built}
+use Rattle.labels.proofs.Jobs.{wideRow, letterRow, plainSpan, chunkRow, plainJob, labelAt, plainVariant, lengthVariant, thirds, mixed, built}
 
 -- ---- whether a row is near, as a computation
 
@@ -131,7 +131,7 @@ chunks-near = (all-near _ _ _ tt, (all-near _ _ _ tt, tt))
 
 -- ---- with a text length
 
--- Spacing to 54, SpacingAndGlyphs to 48
+-- Spacing to 54, SpacingAndGlyphs to 48, the natural length to 54
 spaced-near : AnswerNear (lengthened 1 (whole 54) 0 []) (lengthened 1 (whole 54) 0 [])
 unfolding computed built seen
 spaced-near = (all-near _ _ _ tt, tt)
@@ -140,10 +140,18 @@ scaled-near : AnswerNear (lengthened 1 (whole 48) 1 []) (lengthened 1 (whole 48)
 unfolding computed built seen
 scaled-near = (all-near _ _ _ tt, tt)
 
--- exact offsets that no float is
+natural-near : AnswerNear (lengthened 1 (whole 54) 2 []) (lengthened 1 (whole 54) 2 [])
+unfolding computed built seen
+natural-near = (all-near _ _ _ tt, tt)
+
+-- exact offsets that no float is: by Spacing, and by all three in one chunk
 thirds-near : AnswerNear thirds thirds
 unfolding computed built seen
 thirds-near = (all-near _ _ _ tt, tt)
+
+mixed-near : AnswerNear mixed mixed
+unfolding computed built seen
+mixed-near = (all-near _ _ _ tt, tt)
 
 -- ---- the edge: an answer whose last cluster stands elsewhere, by a dx that the label does not have
 

@@ -46,9 +46,9 @@ full-list : List ℕ
 full-list =
     chunkRow 0 (65 ∷ 66 ∷ []) (plainSpan 0 1 (replicate 1024 (letterRow 1 1 2)) ∷ plainSpan 1 2 (letterRow 2 1 1 ∷ letterRow 3 1 1 ∷ []) ∷ [])
 
--- the label with text length 2, SpacingAndGlyphs, and no width
-no-width : List (ℕ × ℕ)
-no-width = (66, 1) ∷ (67, 0x40) ∷ (71, 1) ∷ (95, 0) ∷ (120, 0) ∷ (145, 0) ∷ []
+-- the label with text length 2, by some adjust value, and no width
+no-width : ℕ → List (ℕ × ℕ)
+no-width adjust = (66, 1) ∷ (67, 0x40) ∷ (71, adjust) ∷ (95, 0) ∷ (120, 0) ∷ (145, 0) ∷ []
 
 -- "ABC", with A and B in some script: letter spacing −11 and SpacingAndGlyphs to 40, in a span of their own
 squeezed : ℕ → List ℕ
@@ -119,7 +119,7 @@ counts-told : numbers counts ≡ told counts
 unfolding computed built numbers told counts
 counts-told = refl
 
--- 4: writing mode 2; units per em 0; chunk flags 4, and x given with its flag clear; anchor 3; flow 1; span font 1; length flag 2; −0 with the length flag clear; adjust 2;
+-- 4: writing mode 2; units per em 0; chunk flags 4, and x given with its flag clear; anchor 3; flow 1; span font 1; length flag 2; −0 with the length flag clear; adjust 3 (2 and 1 pass);
 -- baselines 12; decorations 8; cluster lengths 0 and 65 (64 passes); width ±65,536 (±65,535 pass); glyph fonts 1 and 255; orientation 2
 values : List Case
 unfolding plain label changed
@@ -134,7 +134,8 @@ values =
     ∷ plain (changed ((66, 2) ∷ [])) 4
     ∷ plain (changed ((67, 0x80) ∷ [])) 4
     ∷ plain (changed ((66, 1) ∷ (67, 0x80) ∷ [])) 0
-    ∷ plain (changed ((71, 2) ∷ [])) 4
+    ∷ plain (changed ((71, 3) ∷ [])) 4
+    ∷ plain (changed ((71, 2) ∷ [])) 0
     ∷ plain (changed ((71, 1) ∷ [])) 0
     ∷ plain (changed ((72, 12) ∷ [])) 4
     ∷ plain (changed ((73, 12) ∷ [])) 4
@@ -223,13 +224,15 @@ spans-told : numbers spans ≡ told spans
 unfolding computed built numbers told spans
 spans-told = refl
 
--- 7, 8 and 9, which a script without letter spacing does not meet where others collapse; 10 one byte short of the answer, and for a buffer of nothing
+-- 7, 8 and 9, which only SpacingAndGlyphs meets, and a script without letter spacing does not where others collapse; 10 one byte short of the answer, and for a buffer of nothing
 later : List Case
 unfolding plain label changed jobOf past-the-end full-list no-width squeezed
 later =
     plain (jobOf (past-the-end ∷ [])) 7
     ∷ plain (jobOf (full-list ∷ [])) 8
-    ∷ plain (changed no-width) 9
+    ∷ plain (changed (no-width 1)) 9
+    ∷ plain (changed (no-width 0)) 0
+    ∷ plain (changed (no-width 2)) 0
     ∷ plain (squeezed (tag "Latn")) 9
     ∷ plain (squeezed (tag "Rohg")) 0
     ∷ record { job = label; lent = 228; number = 0 }
@@ -250,9 +253,9 @@ order =
     ∷ plain (changed ((5, 2) ∷ (31, 17) ∷ [])) 3
     ∷ plain (changed ((5, 2) ∷ (45, 0x80) ∷ [])) 4
     ∷ plain (changed ((45, 0x80) ∷ (52, 4) ∷ [])) 5
-    ∷ plain (changed ((52, 4) ∷ (66, 1) ∷ (67, 0x40) ∷ (71, 1) ∷ (95, 0) ∷ (120, 0) ∷ (145, 0) ∷ [])) 6
+    ∷ plain (changed ((52, 4) ∷ no-width 1)) 6
     ∷ record { job = (jobOf (past-the-end ∷ [])); lent = 0; number = 7 }
-    ∷ record { job = (changed no-width); lent = 0; number = 9 }
+    ∷ record { job = (changed (no-width 1)); lent = 0; number = 9 }
     ∷ []
 
 order-told : numbers order ≡ told order

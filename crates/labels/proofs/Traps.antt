@@ -12,7 +12,7 @@ use Rattle.labels.specs.Answer.{GlyphRow, ClusterRow, SpanRow, ChunkRow}
 use Rattle.labels.specs.Layout.{layoutRows}
 use Rattle.labels.specs.Compute.{computed}
 use Rattle.labels.proofs.Seen.{bits, whole, below, -0, shown}
-use Rattle.labels.proofs.Jobs.{Variant, fontRow, glyphRow, wideRow, letterRow, spanRow, plainSpan, chunkRow, jobRow, plainJob, labelJob, plainVariant, built}
+use Rattle.labels.proofs.Jobs.{Variant, fontRow, glyphRow, wideRow, letterRow, spanRow, plainSpan, chunkRow, jobRow, plainJob, labelJob, plainVariant, lengthVariant, built}
 
 -- ---- what is seen of a layout
 
@@ -46,6 +46,10 @@ offsetsOf : ClusterRow → List (ℕ × ℕ)
 unfolding glyphOffset
 offsetsOf c = map glyphOffset (c .glyphs)
 
+-- its flags, width, advance and length spacing
+lengthLine : ClusterRow → List ℕ
+lengthLine c = c .flags ∷ bits (c .width) ∷ bits (c .advance) ∷ bits (c .spacing) ∷ []
+
 scaleOf : ClusterRow → ℕ × ℕ
 scaleOf c = (c .flags, bits (c .scale))
 
@@ -56,7 +60,7 @@ penOf : ChunkRow → ℕ × ℕ
 penOf c = (bits (c .penX), bits (c .penY))
 
 unfoldable seen : Unit {0}
-unfolding laidOut chunksIn clustersIn spansIn idsOf lineOf offsetsOf scaleOf angleOf penOf shown
+unfolding laidOut chunksIn clustersIn spansIn idsOf lineOf lengthLine offsetsOf scaleOf angleOf penOf shown
 seen = tt
 
 -- ---- jobs
@@ -168,6 +172,35 @@ first-of-index : clustersIn lineOf (abcd (spanRow 0 4 0 0 1 (whole 54) 0 [] (let
     ≡ (0 ∷ whole 10 ∷ whole 44 ∷ 0 ∷ []) ∷ (0 ∷ whole 10 ∷ whole 44 ∷ whole 44 ∷ []) ∷ (0 ∷ whole 10 ∷ whole 10 ∷ whole 88 ∷ []) ∷ []
 unfolding computed built seen abcd
 first-of-index = refl
+
+-- document 02's adjust 2: the label's advances 11, 7, 10, letter and word spacing in them, brought to 54. With the flag clear it changes nothing
+natural : map (λ (fixed : ℕ × ℕ). clustersIn lengthLine (labelJob (lengthVariant (fixed .0) (fixed .1) 2 []))) ((1, whole 54) ∷ (0, 0) ∷ [])
+    ≡ ((0 ∷ whole 10 ∷ whole 24 ∷ whole 13 ∷ []) ∷ (0 ∷ whole 4 ∷ whole 20 ∷ whole 13 ∷ []) ∷ (0 ∷ whole 10 ∷ whole 23 ∷ whole 13 ∷ []) ∷ [])
+    ∷ ((0 ∷ whole 10 ∷ whole 11 ∷ 0 ∷ []) ∷ (0 ∷ whole 4 ∷ whole 7 ∷ 0 ∷ []) ∷ (0 ∷ whole 10 ∷ whole 10 ∷ 0 ∷ []) ∷ [])
+    ∷ []
+unfolding computed built seen
+natural = refl
+
+-- a single cluster of two glyphs gets 0: by Spacing its advance becomes its width, by adjust 2 it stays
+alone : map (λ (adjust : ℕ). clustersIn lengthLine (abcd (spanRow 0 4 0 0 1 (whole 54) adjust [] (letterRow 1 0 1 ∷ wideRow 2 0 1 512 ∷ []) ∷ []))) (0 ∷ 2 ∷ [])
+    ≡ ((0 ∷ whole 10 ∷ whole 10 ∷ 0 ∷ []) ∷ []) ∷ ((0 ∷ whole 10 ∷ whole 14 ∷ 0 ∷ []) ∷ []) ∷ []
+unfolding computed built seen abcd
+alone = refl
+
+-- by adjust 2 too only the first of a byte index takes part: (54 − 22) ÷ 1 is added to the advances 11 and 11, and the third keeps its 10
+natural-first : clustersIn lengthLine (abcd (spanRow 0 4 (whole 1) 0 1 (whole 54) 2 [] (letterRow 1 0 1 ∷ letterRow 2 1 1 ∷ letterRow 3 0 1 ∷ []) ∷ []))
+    ≡ (0 ∷ whole 10 ∷ whole 43 ∷ whole 32 ∷ []) ∷ (0 ∷ whole 10 ∷ whole 43 ∷ whole 32 ∷ []) ∷ (0 ∷ whole 10 ∷ whole 10 ∷ 0 ∷ []) ∷ []
+unfolding computed built seen abcd
+natural-first = refl
+
+-- collapsed clusters take part. Their sum is +0, so that of the text length −0 each gets −0; and of 54 each gets 54
+natural-collapsed : map (λ (target : ℕ). clustersIn lengthLine (abcd (spanRow 0 2 (below 11) 0 1 target 2 [] (letterRow 1 0 1 ∷ letterRow 2 1 1 ∷ letterRow 3 2 1 ∷ []) ∷ plainSpan 2 4 [] ∷ [])))
+    (-0 ∷ whole 54 ∷ [])
+    ≡ ((32 ∷ 0 ∷ 0 ∷ -0 ∷ []) ∷ (32 ∷ 0 ∷ 0 ∷ -0 ∷ []) ∷ (0 ∷ whole 10 ∷ whole 10 ∷ 0 ∷ []) ∷ [])
+    ∷ ((32 ∷ 0 ∷ whole 54 ∷ whole 54 ∷ []) ∷ (32 ∷ 0 ∷ whole 54 ∷ whole 54 ∷ []) ∷ (0 ∷ whole 10 ∷ whole 10 ∷ 0 ∷ []) ∷ [])
+    ∷ []
+unfolding computed built seen abcd
+natural-collapsed = refl
 
 -- a width of 1 scaled by its text length: 0.001 counts, the float below it does not, nor does −1
 factors : map (λ (target : ℕ). clustersIn scaleOf (abcd (spanRow 0 4 0 0 1 target 1 [] (wideRow 1 0 1 128 ∷ []) ∷ [])))

@@ -10,7 +10,7 @@ use Rattle.labels.specs.Outcome.{Outcome, refused, given, andThen}
 use Rattle.labels.specs.Lists.{all, every, isEmpty}
 use Rattle.labels.specs.Bytes.{be}
 use Rattle.labels.specs.Single.{smallest, largest, smallestSize, largestSize, isZero, between, isZeroBits}
-use Rattle.labels.specs.Job.{Font, Glyph, Shift, Span, SpanParts, Chunk, Job, limits, jobVersion, topToBottom, anchorEnd, flowLinear, adjustSpacingAndGlyphs, noFont, hasX, hasY, hasLength, spansOf}
+use Rattle.labels.specs.Job.{Font, Glyph, Shift, Span, SpanParts, Chunk, Job, limits, jobVersion, topToBottom, anchorEnd, flowLinear, adjustNatural, noFont, hasX, hasY, hasLength, spansOf}
 use Rattle.labels.specs.Decode.{shaped, jobOf}
 use Rattle.labels.specs.Utf8.{isUtf8, startsAt}
 
@@ -73,7 +73,7 @@ spanOk fonts s =
     ∷ floatOk (s .word)
     ∷ leb (s .fixed) 1
     ∷ flaggedOk (hasLength s) (s .length)
-    ∷ leb (s .adjust) adjustSpacingAndGlyphs
+    ∷ leb (s .adjust) adjustNatural
     ∷ leb (s .dominant) 11
     ∷ leb (s .alignment) 11
     ∷ leb (s .decorations) 7

@@ -11,7 +11,7 @@ use lib.Ieee.{Float, binary32, neg, lt, ne, ofInt}
 use Rattle.labels.specs.Outcome.{Outcome, refused, given}
 use Rattle.labels.specs.Lists.{scan, all, modify, atOr}
 use Rattle.labels.specs.Single.{_+ᶠ_, _-ᶠ_, _*ᶠ_, _/ᶠ_, +0, two, ofNat, thousandth, isZero, isPositive}
-use Rattle.labels.specs.Job.{Job, Font, Span, fontAt, spanAt, topToBottom, adjustSpacing, hasLength}
+use Rattle.labels.specs.Job.{Job, Font, Span, fontAt, spanAt, topToBottom, adjustSpacingAndGlyphs, hasLength}
 use Rattle.labels.specs.Group.{Group}
 use Rattle.labels.specs.Kind.{Kind, measure, sumAdvance, maxAdvance}
 use Rattle.labels.specs.LengthAdjust.{clusterIndexes, sumAt, adjustSpacingOf}
@@ -108,7 +108,7 @@ unfoldable pub adjustSpan : Outcome (List Cluster) → Span → Outcome (List Cl
 adjustSpan (refused n) s = refused n
 adjustSpan (given cs) s =
     cond (hasLength s)
-    (cond (eqb (s .adjust) adjustSpacing) (given (adjustSpacingOf rounded s cs)) (adjustGlyphsOf s cs (clusterIndexes rounded s cs)))
+    (cond (eqb (s .adjust) adjustSpacingAndGlyphs) (adjustGlyphsOf s cs (clusterIndexes rounded s cs)) (given (adjustSpacingOf rounded s cs)))
     (given cs)
 
 unfoldable pub applyLengthAdjust : List Span → List Cluster → Outcome (List Cluster)

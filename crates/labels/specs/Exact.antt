@@ -1,7 +1,7 @@
 -- The exact layout of document 01: steps 1 and 2's choices, and steps 4 to 7 on fractions. It is fed the job alone. And demand 3. Definitions only.
 use Prim.Native.Nat.{ℕ, _+_, _/_, _%_, _^_, _<_}
 use mathlib.Core.Path.{_≡_}
-use mathlib.Core.Bool.{Bool, cond, _&&_}
+use mathlib.Core.Bool.{Bool, cond}
 use mathlib.Core.List.{List, [], _∷_, foldl, zipWith}
 use lib.ListN.{length, getD}
 use lib.Dec.{T, eqb}
@@ -12,7 +12,7 @@ use Rattle.rounding.specs.Fraction.{Frac, 0ᵠ, _+ᵠ_, _-ᵠ_, _·ᵠ_, _/ᵠ_
 use Rattle.labels.specs.Outcome.{Outcome, refused, given}
 use Rattle.labels.specs.Lists.{any}
 use Rattle.labels.specs.Single.{+0}
-use Rattle.labels.specs.Job.{Job, Chunk, Span, Glyph, Font, spansOf, spanAt, hasLength, adjustSpacing}
+use Rattle.labels.specs.Job.{Job, Chunk, Span, Glyph, Font, spansOf, spanAt, hasLength, spreads}
 use Rattle.labels.specs.Utf8.{characters}
 use Rattle.labels.specs.Merge.{mergeGlyphs}
 use Rattle.labels.specs.Group.{Group, groups}
@@ -84,9 +84,9 @@ exactCluster fonts spans g c =
 unfoldable pub formedExactly : Job → Chunk → List Glyph → List ExactCluster
 formedExactly job c gs = zipWith (exactCluster (job .fonts) (spansOf c)) (groups (spansOf c) gs) (collapsedClusters job c gs)
 
--- step 6: of the two ways of adjusting only Spacing changes an advance
+-- step 6: of the ways of adjusting SpacingAndGlyphs changes no advance
 unfoldable pub adjustSpanExactly : List ExactCluster → Span → List ExactCluster
-adjustSpanExactly cs s = cond (hasLength s && eqb (s .adjust) adjustSpacing) (adjustSpacingOf exact s cs) cs
+adjustSpanExactly cs s = cond (spreads s) (adjustSpacingOf exact s cs) cs
 
 -- steps 4 to 7; `offset` characters come before the chunk
 unfoldable pub layoutExactly : Job → ℕ → Chunk → List ExactCluster → List ExactCluster

@@ -5,7 +5,7 @@ pub use Rattle.labels.specs.declared.Span.{Span}
 pub use Rattle.labels.specs.declared.BaselineShift.{BaselineShift}
 use Rattle.labels.specs.declared.Limits.{Limits}
 use Prim.Native.Nat.{ℕ, _/_, _%_}
-use mathlib.Core.Bool.{Bool}
+use mathlib.Core.Bool.{Bool, not, _&&_}
 use mathlib.Core.List.{List, map}
 use lib.ListN.{getD}
 use lib.Dec.{eqb}
@@ -74,12 +74,15 @@ anchorEnd = 2
 abbrev pub flowLinear : ℕ
 flowLinear = 0
 
--- adjust: Spacing, SpacingAndGlyphs
+-- adjust: Spacing; SpacingAndGlyphs; the natural length, as SVG has it (letter and word spacing count)
 abbrev pub adjustSpacing : ℕ
 adjustSpacing = 0
 
 abbrev pub adjustSpacingAndGlyphs : ℕ
 adjustSpacingAndGlyphs = 1
+
+abbrev pub adjustNatural : ℕ
+adjustNatural = 2
 
 -- the font byte of a span with no font
 abbrev pub noFont : ℕ
@@ -95,6 +98,10 @@ hasY c = eqb (c .flags / 2 % 2) 1
 -- the span has a text length
 abbrev pub hasLength : Span → Bool
 hasLength s = eqb (s .fixed) 1
+
+-- it has one that changes advances: SpacingAndGlyphs does not
+abbrev pub spreads : Span → Bool
+spreads s = hasLength s && not (eqb (s .adjust) adjustSpacingAndGlyphs)
 
 -- ---- rows by their place; what stands past the end of a list is never asked for in a job that passes the checks
 

@@ -1,12 +1,12 @@
--- Step 6: text length, by Spacing. (SpacingAndGlyphs changes no advance: Cluster.) Definitions only.
+-- Step 6: text length, by Spacing or by the natural length. (SpacingAndGlyphs changes no advance: Cluster.) Definitions only.
 use Prim.Native.Nat.{ℕ, _+_, _-_}
 use mathlib.Core.Bool.{not, cond, _&&_}
 use mathlib.Core.List.{List, [], _∷_, foldl}
 use lib.ListN.{length}
-use lib.Dec.{ltb}
+use lib.Dec.{ltb, eqb}
 use lib.Ieee.{Float}
 use Rattle.labels.specs.Lists.{among, modify, atOr}
-use Rattle.labels.specs.Job.{Span}
+use Rattle.labels.specs.Job.{Span, adjustNatural}
 use Rattle.labels.specs.Merge.{spanContains}
 use Rattle.labels.specs.Kind.{Kind, indexes}
 
@@ -19,7 +19,7 @@ placesFrom s seen k (i ∷ is) =
     cond (spanContains s i && not (among i seen)) (k ∷ rest) rest
 
 module _ (K : Kind) where
-  open Kind K using (Num, ofFloat, nought, _⊕_, _⊖_, _⊘_, Cluster, width, withSpacing)
+  open Kind K using (Num, ofFloat, nought, _⊕_, _⊖_, _⊘_, Cluster, width, advance, withSpacing)
 
   infixl 75 _⊕_ _⊖_
   infixl 80 _⊘_
@@ -35,12 +35,16 @@ module _ (K : Kind) where
   unfoldable pub spacingFactor : Float → Num → ℕ → Num
   spacingFactor target sum n = cond (ltb 1 n) ((ofFloat target ⊖ sum) ⊘ (n - 1)) nought
 
-  -- ---- the advance becomes the width and the factor, which is kept as length spacing
-  abbrev pub stretchedBy : Num → Cluster → Cluster
-  stretchedBy factor c = withSpacing (width c ⊕ factor) factor c
+  -- ---- the number of a cluster that is brought to the length: by the natural length its advance, with the spacing in it, and else its width
+  abbrev pub takenOf : Span → Cluster → Num
+  takenOf s c = cond (eqb (s .adjust) adjustNatural) (advance c) (width c)
+
+  -- ---- the advance becomes that number and the factor, which is kept as length spacing
+  abbrev pub stretchedBy : Span → Num → Cluster → Cluster
+  stretchedBy s factor c = withSpacing (takenOf s c ⊕ factor) factor c
 
   unfoldable pub adjustSpacingOf : Span → List Cluster → List Cluster
   adjustSpacingOf s cs =
       let is = clusterIndexes s cs in
-      let factor = spacingFactor (s .length) (sumAt width cs is) (length is) in
-      foldl (modify (stretchedBy factor)) cs is
+      let factor = spacingFactor (s .length) (sumAt (takenOf s) cs is) (length is) in
+      foldl (modify (stretchedBy s factor)) cs is

@@ -18,12 +18,12 @@ use Rattle.labels.specs.Single.{+0, isZero, thousandth}
 use Rattle.labels.specs.declared.Font.{Font}
 use Rattle.labels.specs.declared.Span.{Span}
 use Rattle.labels.specs.declared.Glyph.{Glyph}
-use Rattle.labels.specs.Job.{Job, Chunk, limits, spansOf, hasLength, adjustSpacing, topToBottom}
+use Rattle.labels.specs.Job.{Job, Chunk, limits, spansOf, hasLength, adjustSpacingAndGlyphs, topToBottom}
 use Rattle.labels.specs.Group.{Group}
 use Rattle.labels.specs.Script.{scriptSupportsLetterSpacing, isWordSeparatorAt}
 use Rattle.labels.specs.Kind.{glyphAdvance, sumAdvance, maxAdvance, indexes}
 use Rattle.labels.specs.Spacing.{settled, letterSpaced, nextLetterSpaced, applyLetterSpacing, wordSpaced, applyWordSpacing}
-use Rattle.labels.specs.LengthAdjust.{clusterIndexes, sumAt, spacingFactor, stretchedBy, adjustSpacingOf}
+use Rattle.labels.specs.LengthAdjust.{clusterIndexes, sumAt, spacingFactor, takenOf, stretchedBy, adjustSpacingOf}
 use Rattle.labels.specs.Position.{Entry, Shifting, logicalOrder, characterNumber, shiftNext, resolveRelativeShifts, turnShift, turnShifts, placedFrom, positioned}
 use Rattle.labels.specs.ClusterParts.{withScale}
 use Rattle.labels.specs.declared.Cluster.{Cluster}
@@ -94,8 +94,8 @@ word-fits text spans k = cond-keeps FitClusters (any (λ (s : Span). not (isZero
 
 -- ---- step 6
 
-stretched-fits : (factor : Float) → Fits factor → (c : Cluster) → FitCluster c → FitCluster (stretchedBy rounded factor c)
-stretched-fits factor f c h = line-fits c h (h .width) (add-fits binary32 _ _) f (h .x) (h .y)
+stretched-fits : (s : Span) (factor : Float) → Fits factor → (c : Cluster) → FitCluster c → FitCluster (stretchedBy rounded s factor c)
+stretched-fits s factor f c h = line-fits c h (h .width) (add-fits binary32 _ _) f (h .x) (h .y)
 
 factor-fits : (target sum : Float) (n : ℕ) → Fits (spacingFactor rounded target sum n)
 unfolding spacingFactor
@@ -105,7 +105,7 @@ spacing-fits : (s : Span) {cs : List Cluster} → FitClusters cs → FitClusters
 unfolding adjustSpacingOf
 spacing-fits s {cs} k =
     let is = clusterIndexes rounded s cs in
-    few-modifies _ (stretched-fits _ (factor-fits (s .length) (sumAt rounded widthOf cs is) (length is))) is k
+    few-modifies _ (stretched-fits s _ (factor-fits (s .length) (sumAt rounded (takenOf rounded s) cs is) (length is))) is k
 
 scaled-fits : (factor : Float) → Fits factor → {cs : List Cluster} (is : List ℕ) → FitClusters cs → FitClusters (scaledBy factor cs is)
 unfolding scaledBy
@@ -124,7 +124,7 @@ span-fits : (o : Outcome (List Cluster)) (s : Span) → FitOutcome o → FitOutc
 unfolding adjustSpan
 span-fits (refused n) s k = tt
 span-fits (given cs) s k =
-    cond-keeps FitOutcome (hasLength s) (cond-keeps FitOutcome (eqb (s .adjust) adjustSpacing) (spacing-fits s k) (glyphs-fit s _ k)) k
+    cond-keeps FitOutcome (hasLength s) (cond-keeps FitOutcome (eqb (s .adjust) adjustSpacingAndGlyphs) (glyphs-fit s _ k) (spacing-fits s k)) k
 
 pub adjusted-fit : (job : Job) (c : Chunk) {gs : List Glyph} → Few (λ g. g .index < 256 ^ 2) (limits .merged) gs → FitOutcome (adjustedClusters job c gs)
 unfolding adjustedClusters collapsedClusters applyLengthAdjust

@@ -10,8 +10,8 @@ use Rattle.labels.specs.Lists.{modify, all, atOr}
 use Rattle.labels.specs.Single.{+0, isZero, thousandth, _/ᶠ_}
 use Rattle.labels.specs.declared.Span.{Span}
 use Rattle.labels.specs.declared.Cluster.{Cluster}
-use Rattle.labels.specs.Job.{hasLength, adjustSpacing}
-use Rattle.labels.specs.LengthAdjust.{clusterIndexes, sumAt, spacingFactor, stretchedBy, adjustSpacingOf}
+use Rattle.labels.specs.Job.{hasLength, adjustSpacingAndGlyphs}
+use Rattle.labels.specs.LengthAdjust.{clusterIndexes, sumAt, spacingFactor, takenOf, stretchedBy, adjustSpacingOf}
 use Rattle.labels.specs.ClusterParts.{withScale}
 use Rattle.labels.specs.Cluster.{rounded, widthOf, scaledBy, adjustGlyphsOf, adjustSpan, applyLengthAdjust}
 use Rattle.laws.proofs.All.{fold-keeps, cond-keeps}
@@ -41,7 +41,7 @@ module _ (is : List ℕ) where
   unfolding adjustSpacingOf
   spacing-keeps s cs k =
       let places = clusterIndexes rounded s cs in
-      at-places (stretchedBy rounded (spacingFactor rounded (s .length) (sumAt rounded widthOf cs places) (length places))) (λ c. refl) cs k places
+      at-places (stretchedBy rounded s (spacingFactor rounded (s .length) (sumAt rounded (takenOf rounded s) cs places) (length places))) (λ c. refl) cs k places
 
   glyphs-keep : (s : Span) (cs : List Cluster) → Kept cs → (places : List ℕ) → IfGiven Kept (adjustGlyphsOf s cs places)
   unfolding adjustGlyphsOf scaledBy
@@ -56,7 +56,7 @@ module _ (is : List ℕ) where
   span-keeps (refused n) s k = tt
   span-keeps (given cs) s k =
       cond-keeps (IfGiven Kept) (hasLength s)
-      (cond-keeps (IfGiven Kept) (eqb (s .adjust) adjustSpacing) (spacing-keeps s cs k) (glyphs-keep s cs k (clusterIndexes rounded s cs)))
+      (cond-keeps (IfGiven Kept) (eqb (s .adjust) adjustSpacingAndGlyphs) (glyphs-keep s cs k (clusterIndexes rounded s cs)) (spacing-keeps s cs k))
       k
 
 -- ---- of one span, and of all

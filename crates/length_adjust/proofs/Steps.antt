@@ -12,9 +12,10 @@ use Rattle.labels.specs.Lists.{modify, all, atOr}
 use Rattle.labels.specs.Single.{+0, _/ᶠ_, isZero, thousandth}
 use Rattle.labels.specs.declared.Span.{Span}
 use Rattle.labels.specs.declared.Cluster.{Cluster}
-use Rattle.labels.specs.LengthAdjust.{clusterIndexes, sumAt, spacingFactor, stretchedBy, adjustSpacingOf}
+use Rattle.labels.specs.LengthAdjust.{clusterIndexes, sumAt, spacingFactor, takenOf, stretchedBy, adjustSpacingOf}
 use Rattle.labels.specs.ClusterParts.{withScale}
 use Rattle.labels.specs.Cluster.{rounded, widthOf, scaledBy, adjustGlyphsOf, adjustSpan}
+use Rattle.length_adjust.specs.Sums.{takenAt}
 
 module _ (s : Span) (cs : List Cluster) where
   -- ---- which way the span goes
@@ -23,23 +24,26 @@ module _ (s : Span) (cs : List Cluster) where
   unfolding adjustSpan
   span-free h = rw (ne-eqb (s .fixed) 1 h)
 
-  pub span-spaced : s .fixed ≡ 1 → s .adjust ≡ 0 → adjustSpan (given cs) s ≡ given (adjustSpacingOf rounded s cs)
+  pub span-scaled : s .fixed ≡ 1 → s .adjust ≡ 1 → adjustSpan (given cs) s ≡ adjustGlyphsOf s cs (clusterIndexes rounded s cs)
   unfolding adjustSpan
-  span-spaced h a = rw (h, a)
+  span-scaled h a = rw (h, a)
 
-  pub span-scaled : s .fixed ≡ 1 → (s .adjust ≡ 0 → ⊥) → adjustSpan (given cs) s ≡ adjustGlyphsOf s cs (clusterIndexes rounded s cs)
+  pub span-spaced : s .fixed ≡ 1 → (s .adjust ≡ 1 → ⊥) → adjustSpan (given cs) s ≡ given (adjustSpacingOf rounded s cs)
   unfolding adjustSpan
-  span-scaled h a = rw (h, ne-eqb (s .adjust) 0 a)
+  span-spaced h a = rw (h, ne-eqb (s .adjust) 1 a)
 
-  -- ---- Spacing, of the places that take part
+  -- ---- Spacing and the natural length, of the places that take part
 
   pub spaced-at : (is : List ℕ) → is ≡ clusterIndexes rounded s cs
       → adjustSpacingOf rounded s cs
-      ≡ foldl (modify (stretchedBy rounded (spacingFactor rounded (s .length) (sumAt rounded widthOf cs is) (length is)))) cs is
+      ≡ foldl (modify (stretchedBy rounded s (spacingFactor rounded (s .length) (sumAt rounded (takenOf rounded s) cs is) (length is)))) cs is
   unfolding adjustSpacingOf
   spaced-at is e = rw e
 
   -- ---- SpacingAndGlyphs, of the places `is`
+
+  pub widths-taken : s .adjust ≡ 1 → (is : List ℕ) → takenAt s cs is ≡ record { sum = sumAt rounded widthOf cs is; count = length is }
+  widths-taken a is = rw a
 
   pub glyphs-none : (is : List ℕ) → length is ≡ 0 → adjustGlyphsOf s cs is ≡ given cs
   unfolding adjustGlyphsOf

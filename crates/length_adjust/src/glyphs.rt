@@ -2,11 +2,12 @@
 use crate::Adjusted;
 use crate::walk::all_zero;
 use crate::walk::scale;
-use crate::walk::widths;
+use crate::walk::taken;
 use labels::Span;
 ghost use mathlib.Core.Path.{_≡_};
 ghost use Prim.Native.Nat.{_≤_};
 ghost use lib.ListN.{length};
+ghost use Rattle.labels.specs.Job.{adjustSpacingAndGlyphs};
 ghost use Rattle.labels.specs.Cluster.{adjustGlyphsOf};
 ghost use Rattle.clusters.specs.Clusters.{clustersOf};
 ghost use Rattle.length_adjust.specs.Marks.{marked};
@@ -19,13 +20,13 @@ pub fn adjust_glyphs(
     words: &mut [[u32; 6]],
     marks: &[u32],
 ) -> Adjusted
-    requires { ⌜ (length (now marks) ≤ length (now floats)) × (length (now marks) ≤ length (now words)) ⌝ }
+    requires { ⌜ (length (now marks) ≤ length (now floats)) × (length (now marks) ≤ length (now words)) × (span .adjust ≡ adjustSpacingAndGlyphs) ⌝ }
     ensures { λ r. ⌜ adjustedOf r (clustersOf (now (floats .exit)) (now (words .exit)) (length (now (marks .entry))))
         ≡ adjustGlyphsOf span (clustersOf (now (floats .entry)) (now (words .entry)) (length (now (marks .entry)))) (marked (now (marks .entry))) ⌝ }
 {
-    let total = widths(floats, words, marks);
-    let sum = total.sum;
-    if total.count == 0 {
+    let widths = taken(span, floats, words, marks);
+    let sum = widths.sum;
+    if widths.count == 0 {
         return Adjusted::Done;
     }
     let flat = all_zero(floats, words, marks);

@@ -27,7 +27,7 @@ pub enum Adjusted {
     Refused(u8),
 }
 
-// `keys` is the text order; what `marks` holds before and after is of no account.
+// By SpacingAndGlyphs (adjust 1), or by what the others take. `keys` is the text order; what `marks` holds before and after is of no account.
 fn adjust_span(
     span: Span,
     keys: &[u32],
@@ -44,11 +44,11 @@ fn adjust_span(
         return Adjusted::Done;
     }
     mark_span(span, keys, marks);
-    if span.adjust == 0 {
-        adjust_spacing(span, floats, words, marks);
-        return Adjusted::Done;
+    if span.adjust == 1 {
+        return adjust_glyphs(span, floats, words, marks);
     }
-    adjust_glyphs(span, floats, words, marks)
+    adjust_spacing(span, floats, words, marks);
+    Adjusted::Done
 }
 
 fn adjust_spans(

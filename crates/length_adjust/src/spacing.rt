@@ -1,6 +1,6 @@
-// Text length by Spacing.
+// Text length by Spacing, and by the natural length.
 use crate::walk::stretch;
-use crate::walk::widths;
+use crate::walk::taken;
 use labels::Span;
 ghost use mathlib.Core.Path.{_≡_};
 ghost use Prim.Native.Nat.{_≤_};
@@ -22,14 +22,14 @@ fn spacing_factor(target: f32, sum: f32, count: usize) -> f32
     0.0
 }
 
-// Spacing, of the marked clusters, which are those that take part.
+// Of the marked clusters, which are those that take part.
 pub fn adjust_spacing(span: Span, floats: &mut [[f32; 10]], words: &[[u32; 6]], marks: &[u32])
     requires { ⌜ (length (now marks) ≤ length (now floats)) × (length (now marks) ≤ length (now words)) × (length (now marks) ≤ 65_536)
         × (marked (now marks) ≡ placesFrom span [] 0 (indexesIn (now words) (length (now marks)))) ⌝ }
     ensures { λ _. ⌜ clustersOf (now (floats .exit)) (now (words .entry)) (length (now (marks .entry)))
         ≡ adjustSpacingOf rounded span (clustersOf (now (floats .entry)) (now (words .entry)) (length (now (marks .entry)))) ⌝ }
 {
-    let total = widths(floats, words, marks);
+    let total = taken(span, floats, words, marks);
     let factor = spacing_factor(span.length, total.sum, total.count);
-    stretch(floats, words, marks, factor);
+    stretch(span, floats, words, marks, factor);
 }

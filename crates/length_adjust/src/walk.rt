@@ -3,6 +3,7 @@ use clusters::cluster_at;
 use clusters::put_cluster;
 use clusters::put_floats;
 use labels::Cluster;
+use labels::Span;
 ghost use mathlib.Core.Path.{_≡_};
 ghost use Prim.Native.Nat.{ℕ, _≤_};
 ghost use mathlib.Core.List.{foldl};
@@ -10,21 +11,31 @@ ghost use lib.ListN.{length};
 ghost use Rattle.labels.specs.Lists.{all, modify, atOr};
 ghost use Rattle.labels.specs.Single.{+0, isZero};
 ghost use Rattle.labels.specs.ClusterParts.{withScale};
-ghost use Rattle.labels.specs.LengthAdjust.{stretchedBy};
+ghost use Rattle.labels.specs.LengthAdjust.{takenOf, stretchedBy};
 ghost use Rattle.labels.specs.Cluster.{rounded, widthOf};
 ghost use Rattle.clusters.specs.Clusters.{clustersOf};
 ghost use Rattle.length_adjust.specs.Marks.{marked};
-ghost use Rattle.length_adjust.specs.Sums.{widthsAt};
+ghost use Rattle.length_adjust.specs.Sums.{takenAt};
 
-// The sum of the widths, and how many clusters have them.
+// The number of a cluster that is brought to the span's text length: by the natural length (adjust 2) its advance, and else its width.
+fn taken_of(span: Span, c: Cluster) -> f32
+    ensures { λ r. ⌜ r ≡ takenOf rounded span c ⌝ }
+{
+    if span.adjust == 2 {
+        return c.advance;
+    }
+    c.width
+}
+
+// The sum of what is taken, and of how many clusters.
 pub struct Total {
     pub sum: f32,
     pub count: usize,
 }
 
-pub fn widths(floats: &[[f32; 10]], words: &[[u32; 6]], marks: &[u32]) -> Total
+pub fn taken(span: Span, floats: &[[f32; 10]], words: &[[u32; 6]], marks: &[u32]) -> Total
     requires { ⌜ (length (now marks) ≤ length (now floats)) × (length (now marks) ≤ length (now words)) ⌝ }
-    ensures { λ r. ⌜ r ≡ widthsAt (clustersOf (now (floats .entry)) (now (words .entry)) (length (now (marks .entry)))) (marked (now (marks .entry))) ⌝ }
+    ensures { λ r. ⌜ r ≡ takenAt span (clustersOf (now (floats .entry)) (now (words .entry)) (length (now (marks .entry)))) (marked (now (marks .entry))) ⌝ }
 {
     let mut sum: f32 = 0.0;
     let mut count: usize = 0;
@@ -32,7 +43,7 @@ pub fn widths(floats: &[[f32; 10]], words: &[[u32; 6]], marks: &[u32]) -> Total
     while i < marks.len() {
         if marks[i] == 1 {
             let c = cluster_at(floats, words, i);
-            sum = sum + c.width;
+            sum = sum + taken_of(span, c);
             count += 1;
         }
         i += 1;
@@ -62,26 +73,26 @@ pub fn all_zero(floats: &[[f32; 10]], words: &[[u32; 6]], marks: &[u32]) -> bool
     true
 }
 
-fn stretched_by(c: Cluster, factor: f32) -> Cluster
-    ensures { λ r. ⌜ r ≡ stretchedBy rounded factor c ⌝ }
+fn stretched_by(span: Span, c: Cluster, factor: f32) -> Cluster
+    ensures { λ r. ⌜ r ≡ stretchedBy rounded span factor c ⌝ }
 {
     let mut d = c;
-    d.advance = c.width + factor;
+    d.advance = taken_of(span, c) + factor;
     d.spacing = factor;
     d
 }
 
-// The advance becomes the width and the factor, which is kept as length spacing.
-pub fn stretch(floats: &mut [[f32; 10]], words: &[[u32; 6]], marks: &[u32], factor: f32)
+// The advance becomes what is taken and the factor, which is kept as length spacing.
+pub fn stretch(span: Span, floats: &mut [[f32; 10]], words: &[[u32; 6]], marks: &[u32], factor: f32)
     requires { ⌜ (length (now marks) ≤ length (now floats)) × (length (now marks) ≤ length (now words)) ⌝ }
     ensures { λ _. ⌜ clustersOf (now (floats .exit)) (now (words .entry)) (length (now (marks .entry)))
-        ≡ foldl (modify (stretchedBy rounded factor)) (clustersOf (now (floats .entry)) (now (words .entry)) (length (now (marks .entry)))) (marked (now (marks .entry))) ⌝ }
+        ≡ foldl (modify (stretchedBy rounded span factor)) (clustersOf (now (floats .entry)) (now (words .entry)) (length (now (marks .entry)))) (marked (now (marks .entry))) ⌝ }
 {
     let mut i: usize = 0;
     while i < marks.len() {
         if marks[i] == 1 {
             let c = cluster_at(floats, words, i);
-            put_floats(floats, i, stretched_by(c, factor));
+            put_floats(floats, i, stretched_by(span, c, factor));
         }
         i += 1;
     }

@@ -32,10 +32,8 @@ returns c = let a = c .before .before .before .before .args in sym (span-free (a
 mark-span-requires : tie.Need-mark-span-requires
 mark-span-requires c κs = search needs
 
-adjust-spacing-requires : tie.Need-adjust-spacing-requires
-adjust-spacing-requires c κs =
-    let m = c .before .before .before .before .before .before .before in
-    (omega arith, omega arith, omega arith, marks-taken m)
+adjust-glyphs-requires : tie.Need-adjust-glyphs-requires
+adjust-glyphs-requires c κs = search needs
 
 same-length : tie.Need-same-length
 same-length c = search needs
@@ -49,16 +47,24 @@ same-length-3 c = search needs
 returns-2 : tie.Need-returns-2
 unfolding adjustedOf
 returns-2 c =
-    let made = c .before in
-    let spacing = made .before .before .before .before in
-    let marks = spacing .before .before .before .before in
+    let made = c .before .before in
+    let glyphs = made .before .before .before .before in
+    let marks = glyphs .before .before .before .before in
     let some = marks .before .before in
-    let a = some .before .before .before .before .args in
-    let cs = clustersOf (a .floats .now) (a .words .now) (length (a .marks .now)) in
-    ap given (rw (marks .mark-span .kept .1 .1 .0) at (made .adjust-spacing .ensures)) ∙ sym (span-spaced (a .span) cs (some .if1 .left) (spacing .if2 .taken))
+    let start = some .before .before .before .before in
+    let a = start .args in
+    let n = length (a .marks .now) in
+    let cs = clustersOf (a .floats .now) (a .words .now) n in
+    let places : marked (marks .mark-span .last .1 .1 .0) ≡ clusterIndexes rounded (a .span) cs =
+    (rw (marks .mark-span .kept .1 .1 .0) at (marks-taken marks))
+    ∙ ap (placesFrom (a .span) [] 0) (sym (clusters-indexes (a .floats .now) (a .words .now) n (start .pre .0) (start .pre .1))) in
+    (rw (marks .mark-span .kept .1 .1 .0) at (made .adjust-glyphs .ensures))
+    ∙ ap (adjustGlyphsOf (a .span) cs) places ∙ sym (span-scaled (a .span) cs (some .if1 .left) (glyphs .if2 .taken))
 
-adjust-glyphs-requires : tie.Need-adjust-glyphs-requires
-adjust-glyphs-requires c κs = search needs
+adjust-spacing-requires : tie.Need-adjust-spacing-requires
+adjust-spacing-requires c κs =
+    let m = c .before .before .before .before .before .before .before in
+    (omega arith, omega arith, omega arith, marks-taken m)
 
 same-length-4 : tie.Need-same-length-4
 same-length-4 c = search needs
@@ -72,19 +78,13 @@ same-length-6 c = search needs
 returns-3 : tie.Need-returns-3
 unfolding adjustedOf
 returns-3 c =
-    let made = c .before .before in
-    let glyphs = made .before .before .before .before in
-    let marks = glyphs .before .before .before .before in
+    let made = c .before in
+    let spacing = made .before .before .before .before in
+    let marks = spacing .before .before .before .before in
     let some = marks .before .before in
-    let start = some .before .before .before .before in
-    let a = start .args in
-    let n = length (a .marks .now) in
-    let cs = clustersOf (a .floats .now) (a .words .now) n in
-    let places : marked (marks .mark-span .last .1 .1 .0) ≡ clusterIndexes rounded (a .span) cs =
-    (rw (marks .mark-span .kept .1 .1 .0) at (marks-taken marks))
-    ∙ ap (placesFrom (a .span) [] 0) (sym (clusters-indexes (a .floats .now) (a .words .now) n (start .pre .0) (start .pre .1))) in
-    (rw (marks .mark-span .kept .1 .1 .0) at (made .adjust-glyphs .ensures))
-    ∙ ap (adjustGlyphsOf (a .span) cs) places ∙ sym (span-scaled (a .span) cs (some .if1 .left) (glyphs .if2 .left))
+    let a = some .before .before .before .before .args in
+    let cs = clustersOf (a .floats .now) (a .words .now) (length (a .marks .now)) in
+    ap given (rw (marks .mark-span .kept .1 .1 .0) at (made .adjust-spacing .ensures)) ∙ sym (span-spaced (a .span) cs (some .if1 .left) (spacing .if2 .left))
 
 pub adjust-span-spec : {M : Type 1} → statement M
 adjust-span-spec =
@@ -92,12 +92,12 @@ adjust-span-spec =
     (tie.spec
     returns
     mark-span-requires
-    adjust-spacing-requires
+    adjust-glyphs-requires
     same-length
     same-length-2
     same-length-3
     returns-2
-    adjust-glyphs-requires
+    adjust-spacing-requires
     same-length-4
     same-length-5
     same-length-6

@@ -1,14 +1,26 @@
 -- `length_adjust::glyphs::adjust_glyphs` meets its contract. Assumes nothing.
-use mathlib.Core.Path.{sym, _∙_}
+use mathlib.Core.Path.{_≡_, sym, _∙_}
+use lib.ListN.{length}
+use Rattle.labels.specs.LengthAdjust.{sumAt}
+use Rattle.labels.specs.Cluster.{rounded, widthOf}
+use Rattle.clusters.specs.Clusters.{clustersOf}
 use Rattle.length_adjust.specs.Marks.{marked}
 use Rattle.length_adjust.specs.Answer.{adjustedOf}
-use Rattle.length_adjust.proofs.Steps.{glyphs-none, glyphs-refused, glyphs-skipped, glyphs-scaled}
+use Rattle.length_adjust.proofs.Steps.{widths-taken, glyphs-none, glyphs-refused, glyphs-skipped, glyphs-scaled}
 use borrow.Author.Needs.{needs}
 use Rattle.length_adjust.proofs.glyphs.adjust_glyphs.Statement.{statement}
 use Rattle.length_adjust.proofs.glyphs.adjust_glyphs.Tie as tie
 
-widths-requires : tie.Need-widths-requires
-widths-requires c κs = search needs
+-- what is added up are the widths
+widths : (c : tie.After-taken) → let a = c .before .before .before .before .args in
+    c .taken .result ≡ record { sum = sumAt rounded widthOf (clustersOf (a .floats .now) (a .words .now) (length (a .marks .now))) (marked (a .marks .now)); count = length (marked (a .marks .now)) }
+widths c =
+    let start = c .before .before .before .before in
+    let a = start .args in
+    c .taken .ensures ∙ widths-taken (a .span) _ (start .pre .2) (marked (a .marks .now))
+
+taken-requires : tie.Need-taken-requires
+taken-requires c κs = search needs
 
 same-length : tie.Need-same-length
 same-length c = search needs
@@ -21,7 +33,7 @@ unfolding adjustedOf
 returns c =
     let total = c .before .before in
     let a = total .before .before .before .before .args in
-    sym (glyphs-none (a .span) _ (marked (a .marks .now)) (rw (total .widths .ensures) at (c .if1 .taken)))
+    sym (glyphs-none (a .span) _ (marked (a .marks .now)) (rw (total .taken .ensures) at (c .if1 .taken)))
 
 all-zero-requires : tie.Need-all-zero-requires
 all-zero-requires c κs = search needs
@@ -39,7 +51,7 @@ returns-2 c =
     let some = zero .before .before .before in
     let total = some .before .before in
     let a = total .before .before .before .before .args in
-    sym (glyphs-refused (a .span) _ (marked (a .marks .now)) (rw (total .widths .ensures) at (some .if1 .left)) (sym (zero .all-zero .ensures) ∙ c .if2 .taken))
+    sym (glyphs-refused (a .span) _ (marked (a .marks .now)) (rw (total .taken .ensures) at (some .if1 .left)) (sym (zero .all-zero .ensures) ∙ c .if2 .taken))
 
 same-length-5 : tie.Need-same-length-5
 same-length-5 c = search needs
@@ -55,8 +67,8 @@ returns-3 c =
     let some = zero .before .before .before in
     let total = some .before .before in
     let a = total .before .before .before .before .args in
-    sym (glyphs-skipped (a .span) _ (marked (a .marks .now)) (rw (total .widths .ensures) at (some .if1 .left)) (sym (zero .all-zero .ensures) ∙ wide .if2 .left)
-    (rw (total .widths .ensures) at (c .if3 .taken)))
+    sym (glyphs-skipped (a .span) _ (marked (a .marks .now)) (rw (total .taken .ensures) at (some .if1 .left)) (sym (zero .all-zero .ensures) ∙ wide .if2 .left)
+    (rw (widths total) at (c .if3 .taken)))
 
 scale-requires : tie.Need-scale-requires
 scale-requires c κs = search needs
@@ -77,15 +89,15 @@ returns-4 c =
     let some = zero .before .before .before in
     let total = some .before .before in
     let a = total .before .before .before .before .args in
-    rw (made .scale .ensures, total .widths .ensures)
-    (sym (glyphs-scaled (a .span) _ (marked (a .marks .now)) (rw (total .widths .ensures) at (some .if1 .left)) (sym (zero .all-zero .ensures) ∙ wide .if2 .left)
-    (rw (total .widths .ensures) at (large .if3 .left))))
+    rw (made .scale .ensures, widths total)
+    (sym (glyphs-scaled (a .span) _ (marked (a .marks .now)) (rw (total .taken .ensures) at (some .if1 .left)) (sym (zero .all-zero .ensures) ∙ wide .if2 .left)
+    (rw (widths total) at (large .if3 .left))))
 
 pub adjust-glyphs-spec : {M : Type 1} → statement M
 adjust-glyphs-spec =
     tie.close
     (tie.spec
-    widths-requires
+    taken-requires
     same-length
     same-length-2
     returns

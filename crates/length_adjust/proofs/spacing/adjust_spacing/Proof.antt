@@ -14,13 +14,13 @@ use borrow.Author.Needs.{needs}
 use Rattle.length_adjust.proofs.spacing.adjust_spacing.Statement.{statement}
 use Rattle.length_adjust.proofs.spacing.adjust_spacing.Tie as tie
 
-widths-requires : tie.Need-widths-requires
-widths-requires c κs = search needs
+taken-requires : tie.Need-taken-requires
+taken-requires c κs = search needs
 
 spacing-factor-requires : tie.Need-spacing-factor-requires
 spacing-factor-requires c κs =
     let a = c .before .before .before .args in
-    rw (c .widths .ensures) (omega (arith, marked-few 0 (a .marks .now), c .before .before .before .pre))
+    rw (c .taken .ensures) (omega (arith, marked-few 0 (a .marks .now), c .before .before .before .pre))
 
 stretch-requires : tie.Need-stretch-requires
 stretch-requires c κs = search needs
@@ -39,9 +39,9 @@ returns c =
     let cs = clustersOf (a .floats .now) (a .words .now) n in
     let same : marked (a .marks .now) ≡ clusterIndexes rounded (a .span) cs =
     start .pre .3 ∙ ap (placesFrom (a .span) [] 0) (sym (clusters-indexes (a .floats .now) (a .words .now) n (start .pre .0) (start .pre .1))) in
-    rw (made .stretch .ensures, factor .spacing-factor .ensures, total .widths .ensures, spaced-at (a .span) cs (marked (a .marks .now)) same)
+    rw (made .stretch .ensures, factor .spacing-factor .ensures, total .taken .ensures, spaced-at (a .span) cs (marked (a .marks .now)) same)
 
 pub adjust-spacing-spec : {M : Type 1} → statement M
 adjust-spacing-spec =
     tie.close
-    (tie.spec widths-requires spacing-factor-requires stretch-requires same-length returns)
+    (tie.spec taken-requires spacing-factor-requires stretch-requires same-length returns)

@@ -1,4 +1,4 @@
--- `length_adjust::walk::widths` meets its contract. Assumes nothing.
+-- `length_adjust::walk::taken` meets its contract. Assumes nothing.
 use mathlib.Core.Logic.{⊎-elim}
 use mathlib.Core.List.{List}
 use lib.Ieee.{Float}
@@ -7,27 +7,28 @@ use Rattle.labels.specs.Single.{+0, _+ᶠ_}
 use Prim.Native.Nat.{ℕ, _≤_, _-_}
 use mathlib.Core.Path.{_≡_, refl, sym, ap, _∙_}
 use lib.ListN.{length}
-use Rattle.labels.specs.LengthAdjust.{sumAt}
-use Rattle.labels.specs.Cluster.{rounded, widthOf}
+use Rattle.labels.specs.declared.Span.{Span}
+use Rattle.labels.specs.LengthAdjust.{sumAt, takenOf}
+use Rattle.labels.specs.Cluster.{rounded}
 use Rattle.clusters.specs.Clusters.{clustersOf}
 use Rattle.clusters.proofs.Turns.{cluster-get}
 use Rattle.length_adjust.specs.Marks.{marked}
 use Rattle.length_adjust.proofs.Walks.{walked, walk-on, walk-past, walk-done, one-more, count-walk}
 use borrow.Author.Needs.{needs}
 use native.Mathlib.Omega.{arith}
-use Rattle.length_adjust.proofs.walk.widths.Statement.{statement}
-use Rattle.length_adjust.proofs.walk.widths.Tie as tie
+use Rattle.length_adjust.proofs.walk.taken.Statement.{statement}
+use Rattle.length_adjust.proofs.walk.taken.Tie as tie
 
-abbrev add-width : List (List Float) → List (List ℕ) → ℕ → Float → ℕ → Float
-add-width floats words n w k = w +ᶠ atOr +0 widthOf (clustersOf floats words n) k
+abbrev add-taken : Span → List (List Float) → List (List ℕ) → ℕ → Float → ℕ → Float
+add-taken span floats words n w k = w +ᶠ atOr +0 (takenOf rounded span) (clustersOf floats words n) k
 
 abbrev Inv-loop : tie.InvT-loop
-Inv-loop floats words marks sum₀ count₀ i₀ sum count i =
-    (count ≤ i) × (walked (add-width floats words (length marks)) sum marks i ≡ sumAt rounded widthOf (clustersOf floats words (length marks)) (marked marks))
+Inv-loop span floats words marks sum₀ count₀ i₀ sum count i =
+    (count ≤ i) × (walked (add-taken span floats words (length marks)) sum marks i ≡ sumAt rounded (takenOf rounded span) (clustersOf floats words (length marks)) (marked marks))
     × (walked one-more count marks i ≡ length (marked marks))
 
 abbrev μ-loop : tie.MeasureT-loop
-μ-loop floats words marks sum₀ count₀ i₀ sum count i = length marks - i
+μ-loop span floats words marks sum₀ count₀ i₀ sum count i = length marks - i
 
 loop-holds : tie.Need-loop-holds Inv-loop μ-loop
 loop-holds c = let a = c .before .args in (omega arith, refl, count-walk 0 (marked (a .marks .now)) ∙ omega arith)
@@ -40,6 +41,9 @@ shared-slice-read-if1 c = search needs
 
 cluster-at-requires : tie.Need-cluster-at-requires Inv-loop μ-loop
 cluster-at-requires c κs = search needs
+
+taken-of-requires : tie.Need-taken-of-requires Inv-loop μ-loop
+taken-of-requires c κs = search needs
 
 add-count : tie.Need-add-count Inv-loop μ-loop
 add-count c = search needs
@@ -56,13 +60,13 @@ loop-again c =
     let a = head .before .before .args in
     let l = head .loop in
     let n = length (a .marks .now) in
-    let add = add-width (a .floats .now) (a .words .now) n in
+    let add = add-taken (a .span) (a .floats .now) (a .words .now) n in
     let h = c .before .before .loop-test .taken in
     ⊎-elim
     (λ w. (
       omega arith,
       walk-on add (l .sum) (c .if1 .sum) (a .marks .now) (l .i) h (w .0 .taken)
-          (w .3 ∙ ap (λ (x : Float). l .sum +ᶠ x) (sym (cluster-get (a .floats .now) (a .words .now) n (l .i) (w .1 .result) (w .1 .ensures) h (omega arith) (omega arith) +0 widthOf)))
+          (w .3 ∙ ap (λ (x : Float). l .sum +ᶠ x) (w .2 .ensures ∙ sym (cluster-get (a .floats .now) (a .words .now) n (l .i) (w .1 .result) (w .1 .ensures) h (omega arith) (omega arith) +0 (takenOf rounded (a .span)))))
           ∙ l .inv .1,
       walk-on one-more (l .count) (c .if1 .count) (a .marks .now) (l .i) h (w .0 .taken) (w .4) ∙ l .inv .2,
     ))
@@ -78,12 +82,12 @@ returns c =
     let a = c .before .before .before .args in
     let l = c .before .loop in
     let n = length (a .marks .now) in
-    let s = walk-done (add-width (a .floats .now) (a .words .now) n) (l .sum) (a .marks .now) (l .i) (c .loop-test .left) in
+    let s = walk-done (add-taken (a .span) (a .floats .now) (a .words .now) n) (l .sum) (a .marks .now) (l .i) (c .loop-test .left) in
     let k = walk-done one-more (l .count) (a .marks .now) (l .i) (c .loop-test .left) in
     rw (← l .inv .1, ← l .inv .2, s, k)
 
-pub widths-spec : {M : Type 1} → statement M
-widths-spec =
+pub taken-spec : {M : Type 1} → statement M
+taken-spec =
     tie.close
     (tie.spec
     Inv-loop
@@ -92,6 +96,7 @@ widths-spec =
     mul-if1
     shared-slice-read-if1
     cluster-at-requires
+    taken-of-requires
     add-count
     add-i
     loop-less
