@@ -11,6 +11,7 @@ fn main() {
     for file in [
         "build.rs",
         "../oracle/amend.rs",
+        "../oracle/natural.rs",
         "../oracle/cut.rs",
         "../oracle/copy.rs",
     ] {

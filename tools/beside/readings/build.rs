@@ -16,6 +16,7 @@ fn main() {
         "edits.rs",
         "list.txt",
         "../oracle/amend.rs",
+        "../oracle/natural.rs",
         "../oracle/cut.rs",
         "../oracle/copy.rs",
     ] {

@@ -1,9 +1,11 @@
 //! Both sides on the same job: the right outcome, and what the library returns and leaves in the lent buffer.
 
 use oracle::bytes::hex;
+use oracle::decode::decode;
 
 use crate::cases::{parts, Case};
 use crate::fields::name_at;
+use crate::left_out::ByReason;
 use crate::library;
 use crate::text::Text;
 
@@ -132,8 +134,9 @@ pub struct Tallies {
     rust: Tally,
     /// What is left out of the comparison with the Rust.
     amended: Tally,
-    /// How many of these the Rust answers otherwise.
-    otherwise: usize,
+    /// Why, and how many of these the Rust answers otherwise.
+    left_out: ByReason,
+    otherwise: ByReason,
 }
 
 impl Tallies {
@@ -141,20 +144,28 @@ impl Tallies {
         match case.text {
             Text::Rust => self.rust.add(case, difference),
             Text::Amended => {
-                let rust = Text::Rust.call(&case.job, case.lent);
-                self.otherwise += usize::from(rust != case.outcome);
                 self.amended.add(case, difference);
+                self.leave_out(case);
             }
+        }
+    }
+
+    fn leave_out(&mut self, case: &Case) {
+        let job = decode(&case.job).expect("a job has the reason");
+        self.left_out.add(&job);
+        if Text::Rust.call(&case.job, case.lent) != case.outcome {
+            self.otherwise.add(&job);
         }
     }
 
     pub fn print(&self) {
         println!("beside {}", Text::Rust.name());
         self.rust.print_compared();
-        println!("left out, with the tag Rohg and letter spacing");
-        println!("these beside {}", Text::Amended.name());
+        println!("left out, and beside {}", Text::Amended.name());
         self.amended.print_compared();
-        println!("answered otherwise by the Rust itself {}", self.otherwise);
+        for ((reason, jobs), (_, otherwise)) in self.left_out.rows().zip(self.otherwise.rows()) {
+            println!("with {reason} {jobs}, answered otherwise by the Rust itself {otherwise}");
+        }
     }
 
     /// No difference.

@@ -130,7 +130,7 @@ fn change_span(span: &mut Span, fonts: usize, random: &mut Random) {
         4 => span.word_spacing = random.pick(edges),
         5 => span.length_flag = random.pick(&[0, 1, 2]),
         6 => span.text_length = random.pick(edges),
-        7 => span.adjust = random.pick(&[1, 2]),
+        7 => span.adjust = random.pick(&[2, 3]),
         8 => span.dominant_baseline = random.pick(&[11, 12]),
         9 => span.alignment_baseline = random.pick(&[11, 12]),
         10 => span.decorations = random.pick(&[7, 8]),

@@ -335,7 +335,7 @@ impl<'a> Maker<'a> {
             } else {
                 0
             },
-            adjust: self.random.below(2) as u8,
+            adjust: self.random.below(3) as u8,
             dominant_baseline: self.random.below(12) as u8,
             alignment_baseline: self
                 .random

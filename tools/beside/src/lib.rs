@@ -9,6 +9,7 @@ pub mod exact;
 pub mod fields;
 pub mod generate;
 pub mod labels;
+pub mod left_out;
 pub mod library;
 pub mod limits;
 pub mod near;

@@ -4,7 +4,7 @@ use std::error::Error;
 
 use counted::count::{Branch, BRANCHES};
 
-use crate::cases;
+use crate::cases::{self, Case};
 use crate::compare::Tally;
 use crate::shown::Shown;
 use crate::text::Text;
@@ -52,17 +52,21 @@ pub const NEVER: &[(&str, &str, &str, &str)] = &[
 pub fn print(seed: u64, count: usize) -> Result<(), Box<dyn Error>> {
     let mut tally = Tally::default();
     let mut shown = Shown::default();
+    let mut beside = 0;
     for case in cases::all(seed, count) {
-        let counted = counted::call::call(&case.job, case.lent).map_err(|refusal| refusal.0);
-        let rust = Text::Rust.call(&case.job, case.lent);
-        let rust = rust.map_err(|refusal| refusal.0);
-        assert!(counted == rust, "counting changes an outcome");
+        if case.text == Text::Rust {
+            count_branches(&case);
+            beside += 1;
+        }
         tally.add(&case, None);
         shown.add(&case);
     }
     tally.print();
     let missing = shown.print();
-    println!("branches {}", BRANCHES.len());
+    println!(
+        "branches {}, in {beside} jobs that are not left out",
+        BRANCHES.len()
+    );
     for branch in BRANCHES {
         println!("{:>12}  {}", branch.taken(), described(branch));
     }
@@ -70,6 +74,13 @@ pub fn print(seed: u64, count: usize) -> Result<(), Box<dyn Error>> {
         0 => Ok(()),
         missing => Err(format!("{missing} things are not reached").into()),
     }
+}
+
+fn count_branches(case: &Case) {
+    let counted = counted::call::call(&case.job, case.lent);
+    let counted = counted.as_ref().map_err(|refusal| refusal.0);
+    let right = case.outcome.as_ref().map_err(|refusal| refusal.0);
+    assert!(counted == right, "counting changes an outcome");
 }
 
 fn described(branch: &Branch) -> String {

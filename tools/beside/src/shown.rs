@@ -35,7 +35,7 @@ const VALUES: &[(&str, usize)] = &[
     ("chunk flags", 4),
     ("anchor", 3),
     ("span font or none", 2),
-    ("length flag and adjust", 4),
+    ("length flag and adjust", 6),
     ("dominant baseline", 12),
     ("alignment baseline", 12),
     ("decorations", 8),
@@ -162,7 +162,7 @@ impl Shown {
         self.value("span font or none", u32::from(span.font == u8::MAX));
         self.value(
             "length flag and adjust",
-            (span.length_flag * 2 + span.adjust) as u32,
+            (span.length_flag * 3 + span.adjust) as u32,
         );
         self.value("dominant baseline", span.dominant_baseline as u32);
         self.value("alignment baseline", span.alignment_baseline as u32);

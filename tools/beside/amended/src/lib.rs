@@ -3,3 +3,6 @@
 pub use oracle::{answer, check, decode, job, refusal, steps};
 
 include!(concat!(env!("OUT_DIR"), "/src/lib.rs"));
+
+#[cfg(test)]
+mod tests;

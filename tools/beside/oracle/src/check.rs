@@ -1,6 +1,6 @@
 //! Checks 4 to 6 of a decoded job, each over the whole job before the next.
 
-use crate::job::{Chunk, FontRow, Glyph, Job, Pattern, Shift, Span, NO_FONT, NUMBER};
+use crate::job::{Chunk, FontRow, Glyph, Job, Pattern, Shift, Span, NATURAL, NO_FONT, NUMBER};
 use crate::refusal::{unless, Refusal};
 
 pub fn check(job: &Job) -> Result<(), Refusal> {
@@ -58,7 +58,7 @@ fn span(span: &Span, fonts: usize) -> bool {
         && float(span.word_spacing)
         && span.length_flag <= 1
         && float_if(span.length_flag == 1, span.text_length)
-        && span.adjust <= 1
+        && span.adjust <= NATURAL
         && span.dominant_baseline <= 11
         && span.alignment_baseline <= 11
         && span.decorations <= 7

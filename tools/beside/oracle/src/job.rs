@@ -66,6 +66,15 @@ pub struct Span {
     pub glyphs: Vec<Glyph>,
 }
 
+/// The adjust value of document 02, which the Rust does not have: advances are brought to the text length, not widths.
+pub const NATURAL: u8 = 2;
+
+impl Span {
+    pub fn has_natural_length(&self) -> bool {
+        self.length_flag == 1 && self.adjust == NATURAL
+    }
+}
+
 #[derive(Clone, Debug)]
 pub struct Shift {
     pub kind: u8,

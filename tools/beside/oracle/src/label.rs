@@ -1,6 +1,6 @@
 //! The label of document 01. The tests show that the Rust gives for it and for P1 to P9 what the document prints.
 
-use crate::job::{Chunk, FontRow, Glyph, Job, Span};
+use crate::job::{Chunk, FontRow, Glyph, Job, Span, NATURAL};
 
 fn glyph(byte_index: u16, width: i32) -> Glyph {
     Glyph {
@@ -69,6 +69,14 @@ pub fn rohingya(letter: f32) -> Job {
     let span = &mut job.chunks[0].spans[0];
     span.letter_spacing = letter.to_bits();
     span.glyphs.iter_mut().for_each(|g| g.tag = *b"Rohg");
+    job
+}
+
+/// The label with a text length by document 02's value of adjust.
+pub fn natural(length: f32) -> Job {
+    let mut job = label();
+    let span = &mut job.chunks[0].spans[0];
+    (span.length_flag, span.text_length, span.adjust) = (1, length.to_bits(), NATURAL);
     job
 }
 

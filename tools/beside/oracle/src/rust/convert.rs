@@ -1,7 +1,7 @@
 //! A checked job as the Rust's own types.
 
 use super::*;
-use crate::job::{self, Job, NO_FONT};
+use crate::job::{self, Job, NATURAL, NO_FONT};
 use shims::SpanNumber;
 
 pub fn text(job: &Job) -> Text {
@@ -93,7 +93,7 @@ fn chunk(chunk: &job::Chunk) -> TextChunk {
 }
 
 fn span(number: usize, span: &job::Span) -> TextSpan {
-    let adjusts = [LengthAdjust::Spacing, LengthAdjust::SpacingAndGlyphs];
+    let (text_length, length_adjust) = length(span);
     TextSpan {
         start: span.start as usize,
         end: span.end as usize,
@@ -115,9 +115,19 @@ fn span(number: usize, span: &job::Span) -> TextSpan {
         visible: true,
         letter_spacing: f32::from_bits(span.letter_spacing),
         word_spacing: f32::from_bits(span.word_spacing),
-        text_length: (span.length_flag == 1).then(|| f32::from_bits(span.text_length)),
-        length_adjust: numbered(adjusts, span.adjust, |a| a as u8),
+        text_length,
+        length_adjust,
     }
+}
+
+/// The Rust has no natural length: such a span has no text length, and nothing asks how it is adjusted.
+fn length(span: &job::Span) -> (Option<f32>, LengthAdjust) {
+    if span.adjust == NATURAL {
+        return (None, LengthAdjust::Spacing);
+    }
+    let length = (span.length_flag == 1).then(|| f32::from_bits(span.text_length));
+    let adjusts = [LengthAdjust::Spacing, LengthAdjust::SpacingAndGlyphs];
+    (length, numbered(adjusts, span.adjust, |a| a as u8))
 }
 
 fn decoration(bits: u8) -> TextDecoration {

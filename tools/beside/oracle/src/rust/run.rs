@@ -15,7 +15,7 @@ pub fn rows(job: &Job) -> Result<Vec<ChunkRow>, Refusal> {
     let mut rows = vec![];
     for (chunk, source) in text.chunks.iter().zip(&job.chunks) {
         let resolver = FontResolver::new(convert::shaped(source, &fonts));
-        let clusters = merge::clusters_of(chunk, &cache, &resolver)?;
+        let mut clusters = merge::clusters_of(chunk, &cache, &resolver)?;
         let row = if clusters.is_empty() {
             ChunkRow {
                 pen,
@@ -23,13 +23,31 @@ pub fn rows(job: &Job) -> Result<Vec<ChunkRow>, Refusal> {
                 spans: vec![],
             }
         } else {
-            chunk_row(&text, chunk, char_offset, pen, &cache, clusters)?
+            adjust(text.writing_mode, chunk, &mut clusters)?;
+            chunk_row(&text, chunk, char_offset, pen, &cache, clusters)
         };
         pen = row.pen;
         char_offset += chunk.text.chars().count();
         rows.push(row);
     }
     Ok(rows)
+}
+
+/// Steps 3 to 6.
+fn adjust(
+    mode: WritingMode,
+    chunk: &TextChunk,
+    clusters: &mut [GlyphCluster],
+) -> Result<(), Refusal> {
+    lookup::by_first_glyph(clusters, |clusters| {
+        apply_writing_mode(mode, clusters);
+        apply_letter_spacing(chunk, clusters);
+    });
+    apply_word_spacing(chunk, clusters);
+    let mut spans = chunk.spans.iter();
+    unless(!spans.any(|s| has_nothing_to_stretch(s, clusters)), 9)?;
+    apply_length_adjust(chunk, clusters);
+    Ok(())
 }
 
 fn chunk_row(
@@ -39,23 +57,9 @@ fn chunk_row(
     pen: (f32, f32),
     cache: &FontsCache,
     mut clusters: Vec<GlyphCluster>,
-) -> Result<ChunkRow, Refusal> {
+) -> ChunkRow {
     let mode = text.writing_mode;
     let (x, y) = (chunk.x.unwrap_or(pen.0), chunk.y.unwrap_or(pen.1));
-
-    lookup::by_first_glyph(&mut clusters, |clusters| {
-        apply_writing_mode(mode, clusters);
-        apply_letter_spacing(chunk, clusters);
-    });
-    apply_word_spacing(chunk, &mut clusters);
-    unless(
-        !chunk
-            .spans
-            .iter()
-            .any(|s| has_nothing_to_stretch(s, &clusters)),
-        9,
-    )?;
-    apply_length_adjust(chunk, &mut clusters);
     let mut end =
         resolve_clusters_positions_horizontal(text, chunk, char_offset, mode, &mut clusters);
     if mode == WritingMode::TopToBottom {
@@ -69,11 +73,11 @@ fn chunk_row(
         let font = cache.get(&span.font)?;
         Some(span_row(index, span, font, mode, (x, y), &clusters))
     });
-    Ok(ChunkRow {
+    ChunkRow {
         pen: (x + end.0, y + end.1),
         spans: spans.collect(),
         clusters: clusters.iter().map(cluster_row).collect(),
-    })
+    }
 }
 
 /// Check 9: SpacingAndGlyphs with a text length, and clusters that take part, all of width zero.
