@@ -15,7 +15,7 @@ const CLIMBS: usize = 16;
 const FIRST_OF: usize = 500;
 
 pub fn print(seed: u64, count: usize) -> Result<(), Box<dyn Error>> {
-    for kind in [Kind::Plain, Kind::Length] {
+    for kind in Kind::ALL {
         let (share, job) = climbed(kind, seed, count / CLIMBS)?;
         println!(
             "{}: the largest distance found is {share:.6} of (g + 3) T / 2^{}",

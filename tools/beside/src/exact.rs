@@ -1,7 +1,8 @@
-//! The exact layout of document 01: steps 1, 2 and 4 to 7 in fractions. It takes nothing from the answer but which clusters collapsed.
+//! The exact layout of documents 01 and 02: steps 1, 2 and 4 to 7 in fractions. It takes nothing from the answer but which clusters
+//! collapsed.
 //!
 //! All fractions of a chunk have one denominator: 2^149, which every float divides, times twice the least common multiples of the
-//! fonts' units per em and of the numbers that Spacing divides by.
+//! fonts' units per em and of the numbers that step 6 divides by.
 
 use oracle::job::{Chunk, Glyph, Job, Pattern, Span};
 
@@ -43,7 +44,7 @@ pub fn exact(
     let sizes = sizes(chunk, &groups, &clusters, &shifts, &units);
     space_letters(chunk, &groups, &mut clusters, collapsed, &units);
     space_words(chunk, &groups, &mut clusters, &units);
-    for span in &chunk.spans {
+    for span in chunk.spans.iter().filter(|span| spreads(span)) {
         adjust_length(span, &groups, &mut clusters, &units);
     }
     Some(Exact {
@@ -114,6 +115,11 @@ fn groups<'a>(merged: &'a [&'a Glyph], chunk: &'a Chunk) -> Vec<Group<'a>> {
     covered.collect()
 }
 
+/// The span has a text length that changes advances; by SpacingAndGlyphs they stay.
+fn spreads(span: &Span) -> bool {
+    span.length_flag == 1 && span.adjust != 1
+}
+
 /// The places in the list of the clusters that take part in a span's text length: of each byte index the first.
 fn taking_part(span: &Span, groups: &[Group]) -> Vec<usize> {
     let of_span = |i: &usize| (span.start..span.end).contains(&groups[*i].byte_index());
@@ -133,11 +139,8 @@ impl Units {
     fn of(job: &Job, chunk: &Chunk, groups: &[Group]) -> Units {
         let glyphs = groups.iter().flat_map(|g| g.glyphs);
         let ems = glyphs.map(|g| job.fonts[g.font as usize].units_per_em as u64);
-        let spaced = chunk
-            .spans
-            .iter()
-            .filter(|s| s.length_flag == 1 && s.adjust == 0);
-        let gaps = spaced.map(|span| taking_part(span, groups).len().saturating_sub(1) as u64);
+        let spread = chunk.spans.iter().filter(|span| spreads(span));
+        let gaps = spread.map(|span| taking_part(span, groups).len().saturating_sub(1) as u64);
         let one = common_multiple(ems);
         let gaps = common_multiple(gaps.filter(|&gaps| gaps > 0));
         Units {
@@ -253,21 +256,22 @@ fn space_words(chunk: &Chunk, groups: &[Group], clusters: &mut [Cluster], units:
     }
 }
 
-/// Step 6. Stretched glyphs keep their advances.
+/// Step 6.
 fn adjust_length(span: &Span, groups: &[Group], clusters: &mut [Cluster], units: &Units) {
-    if span.length_flag == 0 || span.adjust == 1 {
-        return;
-    }
+    let taken = |cluster: &Cluster| match span.has_natural_length() {
+        true => cluster.advance,
+        false => cluster.width,
+    };
     let places = taking_part(span, groups);
-    let widths = places
+    let sum = places
         .iter()
-        .fold(Whole::ZERO, |sum, &i| sum + clusters[i].width);
+        .fold(Whole::ZERO, |sum, &i| sum + taken(&clusters[i]));
     let amount = match places.len() {
         0 | 1 => Whole::ZERO,
-        n => (units.pattern(span.text_length) - widths).divided(n as u64 - 1),
+        n => (units.pattern(span.text_length) - sum).divided(n as u64 - 1),
     };
     for i in places {
-        clusters[i].advance = clusters[i].width + amount;
+        clusters[i].advance = taken(&clusters[i]) + amount;
         clusters[i].length_spacing = amount;
     }
 }
@@ -361,11 +365,12 @@ fn sizes(
     })
 }
 
-/// The numbers of `crates/labels/proofs/Asked.antt`, which the prover computes from the definitions.
+/// The first three have the numbers of `crates/labels/proofs/Asked.antt`, which the prover computes from the definitions; the last were
+/// reckoned by hand.
 #[cfg(test)]
 mod tests {
     use super::*;
-    use oracle::label::label;
+    use oracle::label::{label, natural};
 
     fn asked(job: &Job, glyphs: usize, sizes: f32, offsets: [f32; 3]) {
         let exact = exact(job, &job.chunks[0], 0, &[false; 3]).unwrap();
@@ -392,5 +397,25 @@ mod tests {
         second.width = -256;
         span.glyphs.insert(1, second);
         asked(&job, 4, 107.0, [-27.5, -7.5, 17.5]);
+    }
+
+    #[test]
+    fn a_natural_length() {
+        asked(&natural(54.0), 3, 87.0, [-54.0, -30.0, -10.0]);
+    }
+
+    /// Four clusters of 11, 7, 11 and 10 are brought to 55 by three gaps of 16 ÷ 3.
+    #[test]
+    fn a_natural_length_in_thirds() {
+        let mut job = natural(55.0);
+        let chunk = &mut job.chunks[0];
+        chunk.text = b"A BB".to_vec();
+        let mut fourth = chunk.spans[0].glyphs[2].clone();
+        fourth.byte_index = 3;
+        chunk.spans[0].glyphs.push(fourth);
+        chunk.spans[0].end = 4;
+        let exact = exact(&job, &job.chunks[0], 0, &[false; 4]).unwrap();
+        let thirds = [-165.0, -116.0, -79.0, -30.0].map(|x| exact.units.float(x));
+        assert!(exact.offsets.iter().map(|x| x.times(3)).eq(thirds));
     }
 }

@@ -5,23 +5,29 @@ use std::error::Error;
 use oracle::answer::{ChunkRow, COLLAPSED};
 use oracle::bytes::hex;
 use oracle::decode::decode;
-use oracle::job::{Chunk, Job};
+use oracle::job::{Chunk, Job, Span};
 
 use crate::cases;
 use crate::exact::{exact, Exact};
 use crate::text::Text;
 use crate::whole::Whole;
 
-/// What is allowed depends on whether a span of the chunk has a text length.
+/// What is allowed depends on whether a span of the chunk has a text length. The two rules by which advances change are seen apart.
 #[derive(Clone, Copy, PartialEq)]
 pub enum Kind {
     Plain,
     Length,
+    Natural,
 }
 
 impl Kind {
+    pub const ALL: [Kind; 3] = [Kind::Plain, Kind::Length, Kind::Natural];
+
     fn of(chunk: &Chunk) -> Kind {
-        if chunk.spans.iter().any(|span| span.length_flag == 1) {
+        let some = |has: fn(&Span) -> bool| chunk.spans.iter().any(has);
+        if some(Span::has_natural_length) {
+            Kind::Natural
+        } else if some(|span| span.length_flag == 1) {
             Kind::Length
         } else {
             Kind::Plain
@@ -32,14 +38,15 @@ impl Kind {
     pub fn sharpness(self) -> u32 {
         match self {
             Kind::Plain => 20,
-            Kind::Length => 18,
+            Kind::Length | Kind::Natural => 18,
         }
     }
 
     pub fn chunks(self) -> &'static str {
         match self {
             Kind::Plain => "chunks without a text length",
-            Kind::Length => "chunks with a text length",
+            Kind::Length => "chunks with a text length, none by adjust 2",
+            Kind::Natural => "chunks with a text length by adjust 2",
         }
     }
 }
@@ -117,20 +124,15 @@ impl Worst {
 
 pub fn print(seed: u64, count: usize) -> Result<(), Box<dyn Error>> {
     let mut jobs = 0;
-    let mut plain = Worst::new(Kind::Plain);
-    let mut length = Worst::new(Kind::Length);
+    let mut worst = Kind::ALL.map(Worst::new);
     for case in cases::all(seed, count).filter(|case| case.outcome.is_ok()) {
         jobs += 1;
         for chunk in shares(&case.job)? {
-            match chunk.kind {
-                Kind::Plain => plain.add(&chunk, &case.job),
-                Kind::Length => length.add(&chunk, &case.job),
-            }
+            worst[chunk.kind as usize].add(&chunk, &case.job);
         }
     }
     println!("accepted jobs {jobs}");
-    plain.print();
-    length.print();
+    worst.iter().for_each(Worst::print);
     Ok(())
 }
 
