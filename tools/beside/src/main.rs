@@ -14,7 +14,7 @@ use beside::text::Text;
 use beside::{climb, near, reach, store, tell};
 
 const USAGE: &str = "\
-beside run SEED COUNT       the library beside the Rust, on jobs of every kind; those with Rohg and letter spacing apart
+beside run SEED COUNT       the library beside the Rust, on jobs of every kind; those that document 02 has laid out otherwise apart
 beside reach SEED COUNT     what these jobs show, and which branches of the Rust's text they take
 beside readings SEED COUNT  after how many of them each wrong reading is told apart
 beside transforms SEED COUNT

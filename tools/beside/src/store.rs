@@ -9,13 +9,15 @@ use std::fs;
 use std::path::Path;
 
 use counted::count::{reset, BRANCHES};
+use oracle::decode::decode;
 use oracle::job::Job;
-use oracle::label::{label, rohingya};
+use oracle::label::{label, natural, rohingya};
 use oracle::refusal::Refusal;
 use readings::reading::NAMES;
 
 use crate::cases::{self, parts, Case};
 use crate::encode::encode;
+use crate::left_out::ByReason;
 use crate::reach::NEVER;
 use crate::tell::{agrees, quietly};
 use crate::text::Text;
@@ -55,15 +57,25 @@ pub fn write(count: usize, dir: &Path) -> Result<(), Box<dyn Error>> {
         "{} jobs in {files} files, {telling} of them chosen",
         chosen.cases.len()
     );
+    print_left_out(&chosen.cases);
     chosen.report()
 }
 
-/// The label, and two in Hanifi Rohingya: one with letter spacing 1; one with -11, scaled to a length of 52.
-fn labels() -> [Job; 3] {
+/// The label; in Hanifi Rohingya with letter spacing 1, and with -11, scaled to a length of 52; with a natural length of 54.
+fn labels() -> [Job; 4] {
     let mut scaled = rohingya(-11.0);
     let span = &mut scaled.chunks[0].spans[0];
     (span.length_flag, span.text_length, span.adjust) = (1, 52f32.to_bits(), 1);
-    [label(), rohingya(1.0), scaled]
+    [label(), rohingya(1.0), scaled, natural(54.0)]
+}
+
+fn print_left_out(cases: &[Case]) {
+    let jobs = cases.iter().filter_map(|case| decode(&case.job).ok());
+    let mut left_out = ByReason::default();
+    jobs.for_each(|job| left_out.add(&job));
+    for (reason, jobs) in left_out.rows() {
+        println!("with {reason} {jobs}");
+    }
 }
 
 fn fits(case: &Case, size: usize) -> bool {

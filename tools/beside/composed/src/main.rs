@@ -16,9 +16,10 @@ use std::process::exit;
 
 use beside::cases::{self, Case};
 use beside::encode::encode;
+use beside::left_out::ByReason;
 use beside::text::Text;
 use oracle::decode::decode;
-use oracle::job;
+use oracle::job::{self, Job};
 
 use compare::Found;
 use rust::Lookups;
@@ -47,15 +48,16 @@ fn main() -> Done {
 
 fn transforms(seed: u64, count: usize) -> Done {
     let mut found = Found::new(Lookups::FirstGlyph, WRONG);
-    let mut left_out = 0;
+    let mut left_out = LeftOut::default();
     for (number, case) in accepted(seed, count) {
+        let job = decode(&case.job).expect("accepted");
         if case.text == Text::Amended {
-            left_out += 1;
+            left_out.add(&job);
             continue;
         }
-        found.add(number, &case.job, &decode(&case.job).expect("accepted"));
+        found.add(number, &case.job, &job);
     }
-    print_left_out(left_out);
+    left_out.print();
     Ok(found.verdict()?)
 }
 
@@ -63,13 +65,13 @@ fn by_tables(seed: u64, count: usize) -> Done {
     let mut found = Found::new(Lookups::Tables, &[]);
     let mut scripts = Scripts::default();
     let mut refused = 0;
-    let mut left_out = 0;
+    let mut left_out = LeftOut::default();
     for (number, case) in accepted(seed, count) {
         let mut job = decode(&case.job).expect("accepted");
         tables::fill(&mut job);
         let bytes = encode(&job);
         if Text::of(&job) == Text::Amended {
-            left_out += 1;
+            left_out.add(&job);
             continue;
         }
         // Other tags may collapse all that was to be stretched: 9.
@@ -80,15 +82,31 @@ fn by_tables(seed: u64, count: usize) -> Done {
         scripts.add(&job);
         found.add(number, &bytes, &job);
     }
-    print_left_out(left_out);
+    left_out.print();
     println!("refused with the tables' tags, and left out: {refused}");
     scripts.print();
     Ok(found.verdict()?)
 }
 
 /// The jobs of which the Rust's text is not right.
-fn print_left_out(jobs: usize) {
-    println!("with the tag Rohg and letter spacing, and left out: {jobs}");
+#[derive(Default)]
+struct LeftOut {
+    jobs: usize,
+    by_reason: ByReason,
+}
+
+impl LeftOut {
+    fn add(&mut self, job: &Job) {
+        self.jobs += 1;
+        self.by_reason.add(job);
+    }
+
+    fn print(&self) {
+        println!("left out: {}", self.jobs);
+        for (reason, jobs) in self.by_reason.rows() {
+            println!("  with {reason}: {jobs}");
+        }
+    }
 }
 
 fn accepted(seed: u64, count: usize) -> impl Iterator<Item = (usize, Case)> {
