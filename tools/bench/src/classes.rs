@@ -1,31 +1,63 @@
 //! The jobs that are timed.
 
-use oracle::job::{Chunk, Glyph, Job, Span};
+use oracle::job::{Chunk, Glyph, Job, Span, NATURAL};
 use oracle::label::label;
 
 use crate::encode::encode;
+use crate::side::Side;
 
-/// A class of labels, and the most that the library's time may be as a share of the Rust's.
+/// A class of labels, and the most that the library's time may be as a share of what it stands beside.
 pub struct Class {
     pub name: &'static str,
-    pub target: f64,
     pub job: Vec<u8>,
+    pub target: f64,
+    pub beside: Beside,
+}
+
+/// A side, and the class whose job it is given: the Rust with the same, or, where it has no such job, the library with another.
+pub struct Beside {
+    pub side: Side,
+    pub class: &'static str,
+}
+
+impl Beside {
+    pub fn name(&self) -> &'static str {
+        match self.side {
+            Side::Rust => "the Rust",
+            Side::Library => self.class,
+        }
+    }
 }
 
 pub fn classes() -> Vec<Class> {
-    let class = |name, target, job: Job| Class {
+    let class = |name, target, job: Job, beside| Class {
         name,
-        target,
         job: encode(&job),
+        target,
+        beside,
+    };
+    let rust = |name, target, job| {
+        let side = Side::Rust;
+        class(name, target, job, Beside { side, class: name })
+    };
+    let spaced = Beside {
+        side: Side::Library,
+        class: "text-length",
     };
     vec![
-        class("short", 0.3, label()),
-        class("two-line", 0.35, two_line()),
-        class("right-to-left", 0.1, right_to_left()),
-        class("text-length", 0.03, text_length()),
-        class("chunks", 0.35, sixteen_chunks()),
-        class("merge", 0.1, merge()),
+        rust("short", 0.3, label()),
+        rust("two-line", 0.35, two_line()),
+        rust("right-to-left", 0.1, right_to_left()),
+        rust("text-length", 0.03, text_length()),
+        rust("chunks", 0.35, sixteen_chunks()),
+        rust("merge", 0.1, merge()),
+        class("natural-length", 1.05, natural_length(), spaced),
     ]
+}
+
+pub fn job_of<'a>(classes: &'a [Class], name: &str) -> Result<&'a [u8], String> {
+    let class = classes.iter().find(|class| class.name == name);
+    Ok(&class.ok_or(format!("no class {name}"))?.job)
 }
 
 /// A label of so many clusters, for how time grows.
@@ -101,6 +133,13 @@ fn text_length() -> Job {
     let span = &mut chunk.spans[0];
     (span.length_flag, span.text_length) = (1, 9_000f32.to_bits());
     job.chunks = vec![chunk];
+    job
+}
+
+/// The same by the value of adjust that counts letter spacing.
+fn natural_length() -> Job {
+    let mut job = text_length();
+    job.chunks[0].spans[0].adjust = NATURAL;
     job
 }
 

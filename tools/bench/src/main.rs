@@ -31,7 +31,7 @@ fn main() -> Done {
         [] => {
             side::agree()?;
             println!("the best of some rounds; the lent buffer is not cleared between calls");
-            times::print_classes();
+            times::print_classes()?;
             times::print_growth();
             Ok(())
         }
@@ -52,8 +52,7 @@ fn write_jobs(dir: &Path) -> Done {
 
 fn calls(name: &str, side: Side, count: usize) -> Done {
     let classes = classes::classes();
-    let class = classes.iter().find(|class| class.name == name);
-    let job = &class.ok_or("no such class")?.job;
+    let job = classes::job_of(&classes, name)?;
     let mut answer = side::buffer();
     for _ in 0..count {
         side::call(side, job, &mut answer);

@@ -12,12 +12,18 @@ pub enum Side {
 }
 
 impl Side {
-    pub fn named(name: &str) -> Result<Side, Box<dyn Error>> {
-        match name {
-            "library" => Ok(Side::Library),
-            "rust" => Ok(Side::Rust),
-            _ => Err("a side is library or rust".into()),
+    pub fn name(self) -> &'static str {
+        match self {
+            Side::Library => "library",
+            Side::Rust => "rust",
         }
+    }
+
+    pub fn named(name: &str) -> Result<Side, Box<dyn Error>> {
+        let found = [Side::Library, Side::Rust]
+            .into_iter()
+            .find(|side| side.name() == name);
+        Ok(found.ok_or("a side is library or rust")?)
     }
 }
 
@@ -43,15 +49,31 @@ pub fn call(side: Side, job: &[u8], answer: &mut [u8]) -> (u32, u32) {
     std::hint::black_box(measured_call(side, std::hint::black_box(job), answer))
 }
 
-/// Both sides give one answer to each job that is timed.
+/// The library gives the right answer to each job that is timed: the Rust's, or document 02's where the Rust has no such job.
 pub fn agree() -> Result<(), Box<dyn Error>> {
-    let jobs = classes().into_iter().map(|class| class.job);
-    for job in jobs.chain([64, 1_024].map(of_clusters)) {
+    let classes = classes().into_iter();
+    let mut jobs: Vec<(Vec<u8>, Side)> = classes.map(|c| (c.job, c.beside.side)).collect();
+    jobs.extend([64, 1_024].map(|clusters| (of_clusters(clusters), Side::Rust)));
+    for (job, beside) in jobs {
         let (mut one, mut other) = (buffer(), buffer());
         let returned = call(Side::Library, &job, &mut one);
-        if returned.0 != 0 || returned != call(Side::Rust, &job, &mut other) || one != other {
+        let right = match beside {
+            Side::Rust => call(Side::Rust, &job, &mut other),
+            Side::Library => call_amended(&job, &mut other),
+        };
+        if returned.0 != 0 || returned != right || one != other {
             return Err("the sides differ; run tools/beside".into());
         }
     }
     Ok(())
+}
+
+fn call_amended(job: &[u8], answer: &mut [u8]) -> (u32, u32) {
+    match amended::call::call(job, answer.len()) {
+        Ok(right) => {
+            answer[..right.len()].copy_from_slice(&right);
+            (0, right.len() as u32)
+        }
+        Err(refusal) => (refusal.0 as u32, 0),
+    }
 }

@@ -2,34 +2,39 @@
 
 use std::time::{Duration, Instant};
 
-use crate::classes::{classes, of_clusters};
+use crate::classes::{classes, job_of, of_clusters};
 use crate::side::{buffer, call, Side};
 
 const ROUNDS: usize = 25;
 const ROUND: Duration = Duration::from_millis(4);
 const MOST_GROWTH: f64 = 2.2;
 
+/// The library's on a job, and what it stands beside.
 struct Times {
     library: f64,
-    rust: f64,
+    beside: f64,
 }
 
-pub fn print_classes() {
-    println!("class           job bytes   library ns      Rust ns   share  target");
-    for class in classes() {
-        let times = measure(&class.job);
-        let share = times.library / times.rust;
+pub fn print_classes() -> Result<(), String> {
+    println!("class           job bytes   library ns    beside ns   share  target       beside");
+    let classes = classes();
+    for class in &classes {
+        let other = job_of(&classes, class.beside.class)?;
+        let times = measure(&class.job, class.beside.side, other);
+        let share = times.library / times.beside;
         println!(
-            "{:<14} {:>10} {:>12.0} {:>12.0} {:>7.3} {:>7} {}",
+            "{:<14} {:>10} {:>12.0} {:>12.0} {:>7.3} {:>7} {}  {}",
             class.name,
             class.job.len(),
             times.library,
-            times.rust,
+            times.beside,
             share,
             class.target,
-            verdict(share <= class.target)
+            verdict(share <= class.target),
+            class.beside.name()
         );
     }
+    Ok(())
 }
 
 /// Clusters doubled from 64 to 1,024.
@@ -37,16 +42,17 @@ pub fn print_growth() {
     println!("clusters   library ns  growth      Rust ns  growth");
     let mut last: Option<Times> = None;
     for count in [64, 128, 256, 512, 1_024] {
-        let times = measure(&of_clusters(count));
+        let job = of_clusters(count);
+        let times = measure(&job, Side::Rust, &job);
         print!("{count:>8} {:>12.0}", times.library);
         match &last {
-            None => println!("         {:>12.0}", times.rust),
+            None => println!("         {:>12.0}", times.beside),
             Some(last) => {
                 let growth = times.library / last.library;
                 println!(
                     " {growth:>7.2} {:>12.0} {:>7.2} {}",
-                    times.rust,
-                    times.rust / last.rust,
+                    times.beside,
+                    times.beside / last.beside,
                     verdict(growth <= MOST_GROWTH)
                 );
             }
@@ -63,19 +69,19 @@ fn verdict(held: bool) -> &'static str {
     }
 }
 
-fn measure(job: &[u8]) -> Times {
+fn measure(job: &[u8], beside: Side, other: &[u8]) -> Times {
     let mut answer = buffer();
-    let sides = [Side::Library, Side::Rust];
-    let calls = sides.map(|side| calls_in_a_round(side, job, &mut answer));
+    let sides = [(Side::Library, job), (beside, other)];
+    let calls = sides.map(|(side, job)| calls_in_a_round(side, job, &mut answer));
     let mut best = [f64::INFINITY; 2];
     for _ in 0..ROUNDS {
-        for (i, &side) in sides.iter().enumerate() {
+        for (i, &(side, job)) in sides.iter().enumerate() {
             best[i] = best[i].min(round(side, job, &mut answer, calls[i]));
         }
     }
     Times {
         library: best[0],
-        rust: best[1],
+        beside: best[1],
     }
 }
 

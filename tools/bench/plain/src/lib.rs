@@ -9,6 +9,8 @@ mod bytes;
 mod check;
 #[path = "../../../beside/oracle/src/decode.rs"]
 mod decode;
+// The Rust has no natural length.
+#[allow(dead_code)]
 #[path = "../../../beside/oracle/src/job.rs"]
 mod job;
 #[path = "../../../beside/oracle/src/refusal.rs"]
