@@ -3,6 +3,7 @@ pub mod Seen
 pub mod Jobs
 pub mod Label
 pub mod Traps
+pub mod Looked
 pub mod Refusals
 pub mod Asked
 pub mod NearLabel

@@ -15,6 +15,7 @@ pub mod LengthAdjust
 pub mod Position
 pub mod ClusterParts
 pub mod Cluster
+pub mod Looked
 pub mod Baseline
 pub mod Decoration
 pub mod Answer
