@@ -5,10 +5,9 @@ use mathlib.Core.Bool.{Bool, true, false, _&&_}
 use mathlib.Core.List.{List, map, map-map}
 use lib.ListN.{drop}
 use lib.Dec.{T}
-use Rattle.laws.proofs.All.{All, all-weaken, all-every, first, rest}
+use Rattle.laws.proofs.All.{All, all-weaken, all-every, all-true, first, rest}
 use Rattle.laws.proofs.Counted.{chunk-counted}
 use Rattle.laws.proofs.ChunkPassed.{PassedGlyph, merged-passed}
-use Rattle.labels.specs.Lists.{all}
 use Rattle.labels.specs.declared.Glyph.{Glyph}
 use Rattle.labels.specs.declared.Job.{Job}
 use Rattle.labels.specs.Job.{SpanParts, spansOf}
@@ -24,12 +23,6 @@ use Rattle.laid_chunk.specs.Steps.{chunkIn}
 is-true : (b : Bool) → T b → b ≡ true
 is-true true t = refl
 is-true false t = absurd t
-
--- a test that each element passes
-all-true : {A : Type 0} (p : A → Bool) {xs : List A} → All (λ x. p x ≡ true) xs → all p xs ≡ true
-unfolding all
-all-true p All.none = refl
-all-true p (All.more e es) = rw (e, all-true p es) refl
 
 -- the spans at their places are the chunk's
 pub spans-are : (s : List ℕ) (at : ℕ) (spans : List ℕ) → SpanPlaces s at spans → spansIn s spans ≡ spansOf (chunkIn s at)

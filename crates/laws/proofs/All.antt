@@ -121,3 +121,13 @@ unfolding all
 all-at p [] i d e h = absurd (not-suc-le-zero h)
 all-at p (x ∷ xs) zero d e h = and-left (p x) (all p xs) e
 all-at p (x ∷ xs) (suc i) d e h = all-at p xs i d (and-right (p x) (all p xs) e) (le-of-suc-le-suc h)
+
+pub all-true : {A : Type 0} (p : A → Bool) {xs : List A} → All (λ x. p x ≡ true) xs → all p xs ≡ true
+unfolding all
+all-true p All.none = refl
+all-true p (All.more e es) = rw (e, all-true p es)
+
+pub true-all : {A : Type 0} (p : A → Bool) (xs : List A) → all p xs ≡ true → All (λ x. p x ≡ true) xs
+unfolding all
+true-all p [] e = All.none
+true-all p (x ∷ xs) e = All.more (and-left (p x) (all p xs) e) (true-all p xs (and-right (p x) (all p xs) e))
