@@ -91,7 +91,8 @@ pub fn adjusted_clusters(
 {
     let n = collapsed_clusters(s, job, spans, rows, count, floats, words, order, spare);
     apply_word_spacing(s, text, spans, floats, words, n);
-    let adjusted = apply_length_adjust(s, spans, order, spare, floats, words, n);
+    let lengths = apply_length_adjust(s, spans, order, spare, floats, words, n);
+    let adjusted = lengths.adjusted;
     match adjusted {
         Adjusted::Done => Formed::Clusters(n),
         Adjusted::Refused(number) => Formed::Refused(number),

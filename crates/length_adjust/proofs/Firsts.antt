@@ -14,26 +14,21 @@ use Rattle.laws.proofs.All.{All, all-weaken}
 use Rattle.sorting.specs.Sorted.{insertKey, sorted, keyOf, keysOf}
 use Rattle.sorting.proofs.Cases.{in-order}
 use Rattle.sorting.proofs.Insertion.{insert-nil, insert-past, insert-here, all-sorted}
-use Rattle.sorting.proofs.Ascending.{Ascends, sorted-ascends}
+use Rattle.sorting.proofs.Ascending.{Ascends, sorted-ascends, drop-ascends}
 use Rattle.length_adjust.specs.Marks.{below, placeFor, found}
 use Rattle.length_adjust.proofs.Cases.{same-or-not}
 
 -- the place of the first key of byte index b; n where there is none
-unfoldable firstOf : ℕ → ℕ → List ℕ → ℕ
+unfoldable pub firstOf : ℕ → ℕ → List ℕ → ℕ
 firstOf n b [] = n
 firstOf n b (key ∷ keys) = cond (eqb (key / 65536) b) (key % 65536) (firstOf n b keys)
 
 -- ---- along keys that ascend
 
-first-late : (n b : ℕ) {keys : List ℕ} → All (λ j. b < j / 65536) keys → firstOf n b keys ≡ n
+pub first-late : (n b : ℕ) {keys : List ℕ} → All (λ j. b < j / 65536) keys → firstOf n b keys ≡ n
 unfolding firstOf
 first-late n b All.none = refl
 first-late n b (All.more {x = j} h hs) = rw (ne-eqb (j / 65536) b (λ e. omega arith)) (first-late n b hs)
-
-drop-ascends : (k : ℕ) {keys : List ℕ} → Ascends keys → Ascends (drop k keys)
-drop-ascends zero a = a
-drop-ascends (suc k) Ascends.end = Ascends.end
-drop-ascends (suc k) (Ascends.step l a) = drop-ascends k a
 
 module _ (n b : ℕ) where
   -- the first key that is not below b decides
@@ -50,7 +45,7 @@ module _ (n b : ℕ) where
       (λ h. rw (lt-leb b (j / 65536) h, ne-eqb (j / 65536) b (λ e. omega arith)) more)
 
   -- no key of a later byte index is passed
-  first-kept : (c : ℕ) → b ≤ c → (keys : List ℕ) → firstOf n c (drop (below b keys) keys) ≡ firstOf n c keys
+  pub first-kept : (c : ℕ) → b ≤ c → (keys : List ℕ) → firstOf n c (drop (below b keys) keys) ≡ firstOf n c keys
   unfolding findIdx firstOf
   first-kept c g [] = refl
   first-kept c g (j ∷ js) =
@@ -64,7 +59,7 @@ abbrev pub upFrom : (ℕ → ℕ) → ℕ → ℕ → List ℕ
 upFrom f b zero = []
 upFrom f b (suc m) = f b ∷ upFrom f (b + 1) m
 
-found-firsts : (n : ℕ) (f : ℕ → ℕ) (m b : ℕ) {keys : List ℕ} → Ascends keys → ((c : ℕ) → b ≤ c → firstOf n c keys ≡ f c) → found n keys b m ≡ upFrom f b m
+pub found-firsts : (n : ℕ) (f : ℕ → ℕ) (m b : ℕ) {keys : List ℕ} → Ascends keys → ((c : ℕ) → b ≤ c → firstOf n c keys ≡ f c) → found n keys b m ≡ upFrom f b m
 unfolding found
 found-firsts n f zero b a h = refl
 found-firsts n f (suc m) b {keys} a h =

@@ -1,8 +1,11 @@
 -- Step 6 leaves each cluster its byte index, and their number. Assumes nothing.
-use Prim.Native.Nat.{ℕ, zero, suc, _≤_}
+use Prim.Native.Nat.{ℕ, zero, suc, _+_, _≤_, _<_}
 use mathlib.Core.Path.{_≡_, refl, sym, ap, _∙_}
 use mathlib.Core.List.{List, [], _∷_, map, foldl}
-use lib.ListN.{length, length-map}
+use native.Mathlib.Numerals.{add-one}
+use native.Mathlib.Omega.{arith}
+use lib.ListN.{length, drop, length-map, drop-of-length-le}
+use lib.Seq.{drop-cons}
 use lib.Dec.{eqb}
 use lib.Ieee.{Float, lt}
 use Rattle.labels.specs.Outcome.{Outcome, refused, given}
@@ -10,10 +13,11 @@ use Rattle.labels.specs.Lists.{modify, all, atOr}
 use Rattle.labels.specs.Single.{+0, isZero, thousandth, _/ᶠ_}
 use Rattle.labels.specs.declared.Span.{Span}
 use Rattle.labels.specs.declared.Cluster.{Cluster}
-use Rattle.labels.specs.Job.{hasLength, adjustSpacingAndGlyphs}
+use Rattle.labels.specs.Job.{blankSpan, spanAt, hasLength, adjustSpacingAndGlyphs}
 use Rattle.labels.specs.LengthAdjust.{clusterIndexes, sumAt, spacingFactor, takenOf, stretchedBy, adjustSpacingOf}
 use Rattle.labels.specs.ClusterParts.{withScale}
 use Rattle.labels.specs.Cluster.{rounded, widthOf, scaledBy, adjustGlyphsOf, adjustSpan, applyLengthAdjust}
+use Rattle.labels.specs.Looked.{spanLooked, spansLooked}
 use Rattle.laws.proofs.All.{fold-keeps, cond-keeps}
 use Rattle.laws.proofs.IfGiven.{IfGiven, of-given}
 use Rattle.clusters.specs.Clusters.{clustersOf, indexesIn}
@@ -91,3 +95,19 @@ pub refused-stays : (n : ℕ) (spans : List Span) → foldl adjustSpan (refused 
 unfolding adjustSpan
 refused-stays n [] = refl
 refused-stays n (s ∷ spans) = refused-stays n spans
+
+-- ---- the bytes that are looked at, span by span
+
+pub looked-turn : (o : Outcome (List Cluster)) (spans : List Span) (i : ℕ) → i < length spans
+    → spanLooked o (spanAt spans i) + spansLooked (adjustSpan o (spanAt spans i)) (drop (i + 1) spans) ≡ spansLooked o (drop i spans)
+unfolding spansLooked
+looked-turn o spans i h = rw (add-one, drop-cons spans i blankSpan h)
+
+pub looked-done : (o : Outcome (List Cluster)) (spans : List Span) (i : ℕ) → length spans ≤ i → spansLooked o (drop i spans) ≡ 0
+unfolding spansLooked
+looked-done o spans i h = rw (drop-of-length-le spans h)
+
+pub refused-looks : (n : ℕ) (spans : List Span) → spansLooked (refused n) spans ≡ 0
+unfolding spansLooked spanLooked adjustSpan
+refused-looks n [] = refl
+refused-looks n (s ∷ spans) = omega (arith, refused-looks n spans)

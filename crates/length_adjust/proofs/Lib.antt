@@ -1,6 +1,9 @@
 -- Laws of step 6. Assumes nothing.
 pub mod Walks
-pub mod Keys
+pub mod Passed
+pub mod Bytes
+pub mod Search
+pub mod Places
 pub mod Kept
 pub mod Steps
 pub mod Cases

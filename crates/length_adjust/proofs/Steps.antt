@@ -15,6 +15,8 @@ use Rattle.labels.specs.declared.Cluster.{Cluster}
 use Rattle.labels.specs.LengthAdjust.{clusterIndexes, sumAt, spacingFactor, takenOf, stretchedBy, adjustSpacingOf}
 use Rattle.labels.specs.ClusterParts.{withScale}
 use Rattle.labels.specs.Cluster.{rounded, widthOf, scaledBy, adjustGlyphsOf, adjustSpan}
+use Rattle.labels.specs.Kind.{indexes}
+use Rattle.labels.specs.Looked.{bytesLooked, spanLooked}
 use Rattle.length_adjust.specs.Sums.{takenAt}
 
 module _ (s : Span) (cs : List Cluster) where
@@ -31,6 +33,16 @@ module _ (s : Span) (cs : List Cluster) where
   pub span-spaced : s .fixed ≡ 1 → (s .adjust ≡ 1 → ⊥) → adjustSpan (given cs) s ≡ given (adjustSpacingOf rounded s cs)
   unfolding adjustSpan
   span-spaced h a = rw (h, ne-eqb (s .adjust) 1 a)
+
+  -- ---- the bytes that are looked at
+
+  pub looked-none : (s .fixed ≡ 1 → ⊥) → spanLooked (given cs) s ≡ 0
+  unfolding spanLooked
+  looked-none h = rw (ne-eqb (s .fixed) 1 h)
+
+  pub looked-some : s .fixed ≡ 1 → spanLooked (given cs) s ≡ bytesLooked s (indexes rounded cs)
+  unfolding spanLooked
+  looked-some h = rw h
 
   -- ---- Spacing and the natural length, of the places that take part
 

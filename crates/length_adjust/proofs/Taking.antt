@@ -1,5 +1,5 @@
 -- The marks say which clusters take part: those that the span covers, and of one byte index only the first. Assumes nothing.
-use Prim.Native.Nat.{ℕ, zero, suc, _+_, _-_, _≤_}
+use Prim.Native.Nat.{ℕ, zero, suc, _+_, _-_, _*_, _/_, _%_, _≤_, _<_}
 use mathlib.Core.Path.{_≡_, refl, sym, ap, ap₂, _∙_}
 use mathlib.Core.Bool.{Bool, true, false, not, cond, _||_, _&&_}
 use mathlib.Core.List.{List, [], _∷_, map}
@@ -9,17 +9,22 @@ use lib.ListN.{length, take, set, replicate, length-map}
 use lib.Seq.{length-take-le}
 use lib.Dec.{eqb, leb, ltb}
 use borrow.Author.Tests.{eq-eqb, ne-eqb, lt-ltb, le-ltb, le-leb, lt-leb}
-use Rattle.labels.specs.Lists.{any, among, findIdx}
+use Rattle.labels.specs.Lists.{all, any, among, findIdx}
 use Rattle.labels.specs.declared.Span.{Span}
-use Rattle.labels.specs.Position.{logicalOrder}
+use Rattle.labels.specs.Position.{entries, logicalOrder}
 use Rattle.labels.specs.LengthAdjust.{placesFrom}
+use Rattle.labels.specs.Looked.{bytesLooked}
+use Rattle.laws.proofs.All.{All, all-weaken, all-true}
 use Rattle.clusters.specs.Clusters.{indexesIn}
-use Rattle.sorting.specs.Sorted.{keyOf}
+use Rattle.sorting.specs.Sorted.{ascending, keyOf, keysOf}
 use Rattle.sorting.proofs.Cases.{in-order}
+use Rattle.sorting.proofs.Insertion.{all-sorted}
+use Rattle.sorting.proofs.Ascending.{sorted-ascends, ascending-of-ascends}
 use Rattle.sorting.proofs.TextKeys.{order-keys}
 use Rattle.length_adjust.specs.Marks.{markedFrom, marked, mark, takingPart}
 use Rattle.length_adjust.proofs.Cases.{same-or-not}
 use Rattle.length_adjust.proofs.Firsts.{upFrom, found-places}
+use Rattle.length_adjust.proofs.Bytes.{indexOf, text-looked}
 
 -- 1 for each byte index that takes part where a span goes from lo to hi; `seen` came before
 abbrev takes : ℕ → ℕ → List ℕ → ℕ → Bool
@@ -121,9 +126,27 @@ taking-part : (s : Span) (is keys : List ℕ) → length is ≤ 65536 → keys �
 taking-part s is keys h e =
     rw (e, order-keys is h, found-places is (s .start) (s .end - s .start) h, marks-are is (s .start) (s .end)) (places-marked s [] 0 is)
 
--- the same of n stored clusters
-pub marks-say : (s : Span) (words : List (List ℕ)) (n : ℕ) (keys : List ℕ) {marks : List ℕ} → n ≤ length words → n ≤ 65536
-    → keys ≡ map keyOf (logicalOrder (indexesIn words n)) → marks ≡ takingPart s keys n → marked marks ≡ placesFrom s [] 0 (indexesIn words n)
-marks-say s words n keys h g e q =
-    let l = indexes-length words n h in
-    ap marked q ∙ ap (λ (k : ℕ). marked (takingPart s keys k)) (sym l) ∙ taking-part s (indexesIn words n) keys (rw l g) e
+keys-places : (k n : ℕ) (is : List ℕ) → k + length is ≤ n → n ≤ 65536 → All (λ key. key % 65536 < n) (map keyOf (entries k is))
+unfolding entries
+keys-places k n [] h g = All.none
+keys-places k n (i ∷ is) h g = All.more {x = i * 65536 + k} (omega arith) (keys-places (suc k) n is (omega arith) g)
+
+-- ---- the same of n stored clusters
+
+module _ (words : List (List ℕ)) (n : ℕ) (keys : List ℕ) (h : n ≤ length words) (g : n ≤ 65536) (e : keys ≡ map keyOf (logicalOrder (indexesIn words n))) where
+  few : length (indexesIn words n) ≤ 65536
+  few = rw (indexes-length words n h) g
+
+  pub marks-say : (s : Span) → marked (takingPart s keys n) ≡ placesFrom s [] 0 (indexesIn words n)
+  marks-say s = ap (λ (k : ℕ). marked (takingPart s keys k)) (sym (indexes-length words n h)) ∙ taking-part s (indexesIn words n) keys few e
+
+  pub order-ascends : ascending keys ≡ true
+  order-ascends = rw (e, order-keys (indexesIn words n) few) (ascending-of-ascends (sorted-ascends (keysOf (indexesIn words n))))
+
+  pub order-places : all (λ (key : ℕ). ltb (key % 65536) n) keys ≡ true
+  order-places =
+      rw (e, order-keys (indexesIn words n) few)
+      (all-true _ (all-weaken (λ key p. lt-ltb (key % 65536) n p) (all-sorted (keys-places 0 n (indexesIn words n) (rw (indexes-length words n h) (omega arith)) g))))
+
+  pub order-looked : (s : Span) → bytesLooked s (map (λ (key : ℕ). key / 65536) keys) ≡ bytesLooked s (indexesIn words n)
+  order-looked s = ap (λ (ks : List ℕ). bytesLooked s (map indexOf ks)) e ∙ text-looked s (indexesIn words n) few

@@ -1,68 +1,70 @@
 // Which clusters take part for a span: the first of each of its byte indexes, found along the text order.
+use crate::keys::next_key;
+use crate::keys::span_keys;
+use crate::range::Range;
+use crate::range::clear;
+use crate::range::places_of;
 use labels::Span;
 ghost use mathlib.Core.Path.{_≡_};
-ghost use Prim.Native.Nat.{_+_, _-_};
-ghost use lib.ListN.{length, drop, replicate, set};
-ghost use Rattle.length_adjust.specs.Marks.{mark, below, placeFor, found, takingPart};
+ghost use mathlib.Core.Bool.{true};
+ghost use mathlib.Core.List.{map};
+ghost use Prim.Native.Nat.{ℕ, _/_, _%_, _≤_};
+ghost use lib.ListN.{length, set};
+ghost use lib.Dec.{leb, ltb};
+ghost use Rattle.labels.specs.Lists.{all};
+ghost use Rattle.labels.specs.Looked.{bytesLooked};
+ghost use Rattle.sorting.specs.Sorted.{ascending};
+ghost use Rattle.length_adjust.specs.Marks.{markedIn, marked, mark, found, bytesTo, takingPart};
 
-fn clear(marks: &mut [u32])
-    ensures { λ _. ⌜ now (marks .exit) ≡ replicate (length (now (marks .entry))) 0 ⌝ }
-{
-    let mut i: usize = 0;
-    while i < marks.len() {
-        marks[i] = 0;
-        i += 1;
-    }
+// What a search came to: where the clusters stand that it marked, and how many bytes it looked at.
+pub struct Search {
+    pub within: Range,
+    pub looked: u32,
 }
 
-// From `k` on, the place of the first key whose byte index is not below `b`.
-fn next_key(keys: &[u32], k: usize, b: u32) -> usize
-    ensures { λ r. ⌜ r ≡ k + below b (drop k (now (keys .entry))) ⌝ }
+fn mark_cluster(key: u32, marks: &mut [u32])
+    ensures { λ _. ⌜ now (marks .exit) ≡ set (now (marks .entry)) (key % 65_536) 1 ⌝ }
 {
-    let mut j = k;
-    while j < keys.len() {
-        if b <= keys[j] / 65_536 {
-            return j;
-        }
-        j += 1;
-    }
-    j
-}
-
-// Marks the cluster of the key at `k`, if its byte index is `b`.
-fn mark_cluster(keys: &[u32], k: usize, b: u32, marks: &mut [u32])
-    ensures { λ _. ⌜ now (marks .exit) ≡ set (now (marks .entry)) (placeFor (length (now (marks .entry))) b (drop k (now (keys .entry)))) 1 ⌝ }
-{
-    if keys.len() <= k {
-        return;
-    }
-    let key = keys[k];
-    if key / 65_536 != b {
-        return;
-    }
     let place = (key % 65_536) as usize;
     if place < marks.len() {
         marks[place] = 1;
     }
 }
 
-// Marks the first cluster of each byte index from `start` to `end`.
-fn find_clusters(keys: &[u32], start: u32, end: u32, marks: &mut [u32])
-    ensures { λ _. ⌜ now (marks .exit) ≡ mark (now (marks .entry)) (found (length (now (marks .entry))) (now (keys .entry)) start (end - start)) ⌝ }
+// Looks at the bytes from `start` on, one after the other, until the clusters of all keys are found, and marks the first of each byte index.
+// How many bytes it looked at is the result.
+fn find_clusters(keys: &[u32], start: u32, marks: &mut [u32]) -> u32
+    requires { ⌜ (ascending (now keys) ≡ true) × (all (λ (key : ℕ). leb start (key / 65_536)) (now keys) ≡ true) ⌝ }
+    ensures { λ r. ⌜ (r ≡ bytesTo start (now (keys .entry)))
+        × (now (marks .exit) ≡ mark (now (marks .entry)) (found (length (now (marks .entry))) (now (keys .entry)) start (bytesTo start (now (keys .entry))))) ⌝ }
 {
     let mut k: usize = 0;
-    let mut b = start;
-    while b < end {
-        k = next_key(keys, k, b);
-        mark_cluster(keys, k, b, marks);
-        b += 1;
+    let mut looked: u32 = 0;
+    while k < keys.len() {
+        let key = keys[k];
+        let b = start + looked;
+        if key / 65_536 == b {
+            mark_cluster(key, marks);
+            k = next_key(keys, k, b + 1);
+        }
+        looked += 1;
     }
+    looked
 }
 
-// Marks the clusters that take part for the span, and no other. `keys` is the text order.
-pub fn mark_span(span: Span, keys: &[u32], marks: &mut [u32])
-    ensures { λ _. ⌜ now (marks .exit) ≡ takingPart span (now (keys .entry)) (length (now (marks .entry))) ⌝ }
+// Marks the clusters that take part for the span, and ends with its last cluster. `keys` is the text order; what `marks` holds outside the range
+// is of no account.
+pub fn mark_span(span: Span, keys: &[u32], marks: &mut [u32]) -> Search
+    requires { ⌜ (ascending (now keys) ≡ true) × (all (λ (key : ℕ). ltb (key % 65_536) (length (now marks))) (now keys) ≡ true) ⌝ }
+    ensures { λ r. ⌜ (r .looked ≡ bytesLooked span (map (λ (key : ℕ). key / 65_536) (now (keys .entry)))) × (r .within .to ≤ length (now (marks .entry)))
+        × (markedIn (r .within) (now (marks .exit)) ≡ marked (takingPart span (now (keys .entry)) (length (now (marks .entry))))) ⌝ }
 {
-    clear(marks);
-    find_clusters(keys, span.start as u32, span.end as u32, marks);
+    let own = span_keys(span, keys);
+    let within = places_of(own);
+    clear(marks, within);
+    let looked = find_clusters(own, span.start as u32, marks);
+    Search {
+        within: within,
+        looked: looked,
+    }
 }

@@ -1,5 +1,6 @@
 // Text length by SpacingAndGlyphs.
 use crate::Adjusted;
+use crate::range::Range;
 use crate::walk::all_zero;
 use crate::walk::scale;
 use crate::walk::taken;
@@ -10,26 +11,28 @@ ghost use lib.ListN.{length};
 ghost use Rattle.labels.specs.Job.{adjustSpacingAndGlyphs};
 ghost use Rattle.labels.specs.Cluster.{adjustGlyphsOf};
 ghost use Rattle.clusters.specs.Clusters.{clustersOf};
-ghost use Rattle.length_adjust.specs.Marks.{marked};
+ghost use Rattle.length_adjust.specs.Marks.{markedIn};
 ghost use Rattle.length_adjust.specs.Answer.{adjustedOf};
 
-// Of the marked clusters.
+// Of the marked clusters of a range.
 pub fn adjust_glyphs(
     span: Span,
     floats: &mut [[f32; 10]],
     words: &mut [[u32; 6]],
     marks: &[u32],
+    within: Range,
 ) -> Adjusted
-    requires { ⌜ (length (now marks) ≤ length (now floats)) × (length (now marks) ≤ length (now words)) × (span .adjust ≡ adjustSpacingAndGlyphs) ⌝ }
+    requires { ⌜ (length (now marks) ≤ length (now floats)) × (length (now marks) ≤ length (now words)) × (within .to ≤ length (now marks))
+        × (span .adjust ≡ adjustSpacingAndGlyphs) ⌝ }
     ensures { λ r. ⌜ adjustedOf r (clustersOf (now (floats .exit)) (now (words .exit)) (length (now (marks .entry))))
-        ≡ adjustGlyphsOf span (clustersOf (now (floats .entry)) (now (words .entry)) (length (now (marks .entry)))) (marked (now (marks .entry))) ⌝ }
+        ≡ adjustGlyphsOf span (clustersOf (now (floats .entry)) (now (words .entry)) (length (now (marks .entry)))) (markedIn within (now (marks .entry))) ⌝ }
 {
-    let widths = taken(span, floats, words, marks);
+    let widths = taken(span, floats, words, marks, within);
     let sum = widths.sum;
     if widths.count == 0 {
         return Adjusted::Done;
     }
-    let flat = all_zero(floats, words, marks);
+    let flat = all_zero(floats, words, marks, within);
     if flat {
         return Adjusted::Refused(9);
     }
@@ -37,6 +40,6 @@ pub fn adjust_glyphs(
     if factor < 0.001 {
         return Adjusted::Done;
     }
-    scale(floats, words, marks, factor);
+    scale(floats, words, marks, within, factor);
     Adjusted::Done
 }

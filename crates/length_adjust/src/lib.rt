@@ -1,6 +1,8 @@
 // Step 6: the clusters of a span with a text length are brought to that length, by spacing or by scaling.
 pub mod find;
 pub mod glyphs;
+pub mod keys;
+pub mod range;
 pub mod spacing;
 pub mod walk;
 
@@ -10,12 +12,13 @@ use crate::spacing::adjust_spacing;
 use labels::Span;
 use lookup::span_in;
 ghost use mathlib.Core.Path.{_≡_};
-ghost use Prim.Native.Nat.{_≤_};
+ghost use Prim.Native.Nat.{_≤_, _<_};
 ghost use mathlib.Core.List.{map};
 ghost use lib.ListN.{length, take};
 ghost use Rattle.labels.specs.Outcome.{given};
 ghost use Rattle.labels.specs.Position.{logicalOrder};
 ghost use Rattle.labels.specs.Cluster.{adjustSpan, applyLengthAdjust};
+ghost use Rattle.labels.specs.Looked.{spanLooked, spansLooked};
 ghost use Rattle.clusters.specs.Clusters.{clustersOf, indexesIn};
 ghost use Rattle.lookup.specs.Rows.{spansIn};
 ghost use Rattle.sorting.specs.Sorted.{keyOf};
@@ -27,28 +30,46 @@ pub enum Adjusted {
     Refused(u8),
 }
 
+// What came of a span, or of all, and how many bytes were looked at.
+pub struct LengthAdjusted {
+    pub adjusted: Adjusted,
+    pub looked: u32,
+}
+
 // By SpacingAndGlyphs (adjust 1), or by what the others take. `keys` is the text order; what `marks` holds before and after is of no account.
-fn adjust_span(
+pub fn adjust_span(
     span: Span,
     keys: &[u32],
     marks: &mut [u32],
     floats: &mut [[f32; 10]],
     words: &mut [[u32; 6]],
-) -> Adjusted
+) -> LengthAdjusted
     requires { ⌜ (length (now marks) ≤ length (now floats)) × (length (now marks) ≤ length (now words)) × (length (now marks) ≤ 65_536)
         × (now keys ≡ map keyOf (logicalOrder (indexesIn (now words) (length (now marks))))) ⌝ }
-    ensures { λ r. ⌜ adjustedOf r (clustersOf (now (floats .exit)) (now (words .exit)) (length (now (marks .entry))))
-        ≡ adjustSpan (given (clustersOf (now (floats .entry)) (now (words .entry)) (length (now (marks .entry))))) span ⌝ }
+    ensures { λ r. ⌜ (adjustedOf (r .adjusted) (clustersOf (now (floats .exit)) (now (words .exit)) (length (now (marks .entry))))
+        ≡ adjustSpan (given (clustersOf (now (floats .entry)) (now (words .entry)) (length (now (marks .entry))))) span)
+        × (r .looked ≡ spanLooked (given (clustersOf (now (floats .entry)) (now (words .entry)) (length (now (marks .entry))))) span) × (r .looked < 65_536) ⌝ }
 {
     if span.fixed != 1 {
-        return Adjusted::Done;
+        return LengthAdjusted {
+            adjusted: Adjusted::Done,
+            looked: 0,
+        };
     }
-    mark_span(span, keys, marks);
+    let search = mark_span(span, keys, marks);
+    let within = search.within;
     if span.adjust == 1 {
-        return adjust_glyphs(span, floats, words, marks);
+        let adjusted = adjust_glyphs(span, floats, words, marks, within);
+        return LengthAdjusted {
+            adjusted: adjusted,
+            looked: search.looked,
+        };
     }
-    adjust_spacing(span, floats, words, marks);
-    Adjusted::Done
+    adjust_spacing(span, floats, words, marks, within);
+    LengthAdjusted {
+        adjusted: Adjusted::Done,
+        looked: search.looked,
+    }
 }
 
 fn adjust_spans(
@@ -58,22 +79,32 @@ fn adjust_spans(
     marks: &mut [u32],
     floats: &mut [[f32; 10]],
     words: &mut [[u32; 6]],
-) -> Adjusted
-    requires { ⌜ (length (now marks) ≤ length (now floats)) × (length (now marks) ≤ length (now words)) × (length (now marks) ≤ 65_536)
+) -> LengthAdjusted
+    requires { ⌜ (length (now marks) ≤ length (now floats)) × (length (now marks) ≤ length (now words)) × (length (now marks) ≤ 65_536) × (length (now spans) < 256)
         × (now keys ≡ map keyOf (logicalOrder (indexesIn (now words) (length (now marks))))) ⌝ }
-    ensures { λ r. ⌜ adjustedOf r (clustersOf (now (floats .exit)) (now (words .exit)) (length (now (marks .entry))))
-        ≡ applyLengthAdjust (spansIn (now (s .entry)) (now (spans .entry))) (clustersOf (now (floats .entry)) (now (words .entry)) (length (now (marks .entry)))) ⌝ }
+    ensures { λ r. ⌜ (adjustedOf (r .adjusted) (clustersOf (now (floats .exit)) (now (words .exit)) (length (now (marks .entry))))
+        ≡ applyLengthAdjust (spansIn (now (s .entry)) (now (spans .entry))) (clustersOf (now (floats .entry)) (now (words .entry)) (length (now (marks .entry)))))
+        × (r .looked ≡ spansLooked (given (clustersOf (now (floats .entry)) (now (words .entry)) (length (now (marks .entry))))) (spansIn (now (s .entry)) (now (spans .entry)))) ⌝ }
 {
+    let mut looked: u32 = 0;
     let mut i: usize = 0;
     while i < spans.len() {
         let span = span_in(s, spans, i);
-        let adjusted = adjust_span(span, keys, marks, floats, words);
+        let one = adjust_span(span, keys, marks, floats, words);
+        looked += one.looked;
+        let adjusted = one.adjusted;
         if let Adjusted::Refused(number) = adjusted {
-            return Adjusted::Refused(number);
+            return LengthAdjusted {
+                adjusted: Adjusted::Refused(number),
+                looked: looked,
+            };
         }
         i += 1;
     }
-    Adjusted::Done
+    LengthAdjusted {
+        adjusted: Adjusted::Done,
+        looked: looked,
+    }
 }
 
 // Of `n` clusters. `order` has their keys in text order; what `taking` holds before and after is of no account.
@@ -85,11 +116,12 @@ pub fn apply_length_adjust(
     floats: &mut [[f32; 10]],
     words: &mut [[u32; 6]],
     n: usize,
-) -> Adjusted
+) -> LengthAdjusted
     requires { ⌜ (n ≤ length (now order)) × (n ≤ length (now taking)) × (n ≤ length (now floats)) × (n ≤ length (now words)) × (n ≤ 1_024)
-        × (take n (now order) ≡ map keyOf (logicalOrder (indexesIn (now words) n))) ⌝ }
-    ensures { λ r. ⌜ adjustedOf r (clustersOf (now (floats .exit)) (now (words .exit)) n)
-        ≡ applyLengthAdjust (spansIn (now (s .entry)) (now (spans .entry))) (clustersOf (now (floats .entry)) (now (words .entry)) n) ⌝ }
+        × (length (now spans) < 256) × (take n (now order) ≡ map keyOf (logicalOrder (indexesIn (now words) n))) ⌝ }
+    ensures { λ r. ⌜ (adjustedOf (r .adjusted) (clustersOf (now (floats .exit)) (now (words .exit)) n)
+        ≡ applyLengthAdjust (spansIn (now (s .entry)) (now (spans .entry))) (clustersOf (now (floats .entry)) (now (words .entry)) n))
+        × (r .looked ≡ spansLooked (given (clustersOf (now (floats .entry)) (now (words .entry)) n)) (spansIn (now (s .entry)) (now (spans .entry)))) ⌝ }
 {
     adjust_spans(s, spans, &order[..n], &mut taking[..n], floats, words)
 }

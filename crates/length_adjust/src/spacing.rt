@@ -1,4 +1,5 @@
 // Text length by Spacing, and by the natural length.
+use crate::range::Range;
 use crate::walk::stretch;
 use crate::walk::taken;
 use labels::Span;
@@ -9,7 +10,7 @@ ghost use lib.ListN.{length};
 ghost use Rattle.labels.specs.LengthAdjust.{placesFrom, spacingFactor, adjustSpacingOf};
 ghost use Rattle.labels.specs.Cluster.{rounded};
 ghost use Rattle.clusters.specs.Clusters.{clustersOf, indexesIn};
-ghost use Rattle.length_adjust.specs.Marks.{marked};
+ghost use Rattle.length_adjust.specs.Marks.{markedIn};
 
 // What each of `count` clusters gets of the target. A cast is taken only of a number that is a float.
 fn spacing_factor(target: f32, sum: f32, count: usize) -> f32
@@ -22,14 +23,20 @@ fn spacing_factor(target: f32, sum: f32, count: usize) -> f32
     0.0
 }
 
-// Of the marked clusters, which are those that take part.
-pub fn adjust_spacing(span: Span, floats: &mut [[f32; 10]], words: &[[u32; 6]], marks: &[u32])
+// Of the marked clusters of a range, which are those that take part.
+pub fn adjust_spacing(
+    span: Span,
+    floats: &mut [[f32; 10]],
+    words: &[[u32; 6]],
+    marks: &[u32],
+    within: Range,
+)
     requires { ⌜ (length (now marks) ≤ length (now floats)) × (length (now marks) ≤ length (now words)) × (length (now marks) ≤ 65_536)
-        × (marked (now marks) ≡ placesFrom span [] 0 (indexesIn (now words) (length (now marks)))) ⌝ }
+        × (within .to ≤ length (now marks)) × (markedIn within (now marks) ≡ placesFrom span [] 0 (indexesIn (now words) (length (now marks)))) ⌝ }
     ensures { λ _. ⌜ clustersOf (now (floats .exit)) (now (words .entry)) (length (now (marks .entry)))
         ≡ adjustSpacingOf rounded span (clustersOf (now (floats .entry)) (now (words .entry)) (length (now (marks .entry)))) ⌝ }
 {
-    let total = taken(span, floats, words, marks);
+    let total = taken(span, floats, words, marks, within);
     let factor = spacing_factor(span.length, total.sum, total.count);
-    stretch(span, floats, words, marks, factor);
+    stretch(span, floats, words, marks, within, factor);
 }

@@ -1,4 +1,5 @@
-// Walks over the marked clusters, in the order of the list. There is a mark for each cluster.
+// Walks over the marked clusters of a range, in the order of the list. There is a mark for each cluster.
+use crate::range::Range;
 use clusters::cluster_at;
 use clusters::put_cluster;
 use clusters::put_floats;
@@ -14,7 +15,7 @@ ghost use Rattle.labels.specs.ClusterParts.{withScale};
 ghost use Rattle.labels.specs.LengthAdjust.{takenOf, stretchedBy};
 ghost use Rattle.labels.specs.Cluster.{rounded, widthOf};
 ghost use Rattle.clusters.specs.Clusters.{clustersOf};
-ghost use Rattle.length_adjust.specs.Marks.{marked};
+ghost use Rattle.length_adjust.specs.Marks.{markedIn};
 ghost use Rattle.length_adjust.specs.Sums.{takenAt};
 
 // The number of a cluster that is brought to the span's text length: by the natural length (adjust 2) its advance, and else its width.
@@ -33,14 +34,21 @@ pub struct Total {
     pub count: usize,
 }
 
-pub fn taken(span: Span, floats: &[[f32; 10]], words: &[[u32; 6]], marks: &[u32]) -> Total
-    requires { ⌜ (length (now marks) ≤ length (now floats)) × (length (now marks) ≤ length (now words)) ⌝ }
-    ensures { λ r. ⌜ r ≡ takenAt span (clustersOf (now (floats .entry)) (now (words .entry)) (length (now (marks .entry)))) (marked (now (marks .entry))) ⌝ }
+pub fn taken(
+    span: Span,
+    floats: &[[f32; 10]],
+    words: &[[u32; 6]],
+    marks: &[u32],
+    within: Range,
+) -> Total
+    requires { ⌜ (length (now marks) ≤ length (now floats)) × (length (now marks) ≤ length (now words)) × (within .to ≤ length (now marks)) ⌝ }
+    ensures { λ r. ⌜ r ≡ takenAt span (clustersOf (now (floats .entry)) (now (words .entry)) (length (now (marks .entry)))) (markedIn within (now (marks .entry))) ⌝ }
 {
     let mut sum: f32 = 0.0;
     let mut count: usize = 0;
-    let mut i: usize = 0;
-    while i < marks.len() {
+    let to = within.to;
+    let mut i = within.from;
+    while i < to {
         if marks[i] == 1 {
             let c = cluster_at(floats, words, i);
             sum = sum + taken_of(span, c);
@@ -55,13 +63,14 @@ pub fn taken(span: Span, floats: &[[f32; 10]], words: &[[u32; 6]], marks: &[u32]
 }
 
 // Whether each width is zero.
-pub fn all_zero(floats: &[[f32; 10]], words: &[[u32; 6]], marks: &[u32]) -> bool
-    requires { ⌜ (length (now marks) ≤ length (now floats)) × (length (now marks) ≤ length (now words)) ⌝ }
+pub fn all_zero(floats: &[[f32; 10]], words: &[[u32; 6]], marks: &[u32], within: Range) -> bool
+    requires { ⌜ (length (now marks) ≤ length (now floats)) × (length (now marks) ≤ length (now words)) × (within .to ≤ length (now marks)) ⌝ }
     ensures { λ r. ⌜ r ≡ all (λ (k : ℕ). isZero (atOr +0 widthOf (clustersOf (now (floats .entry)) (now (words .entry)) (length (now (marks .entry)))) k))
-        (marked (now (marks .entry))) ⌝ }
+        (markedIn within (now (marks .entry))) ⌝ }
 {
-    let mut i: usize = 0;
-    while i < marks.len() {
+    let to = within.to;
+    let mut i = within.from;
+    while i < to {
         if marks[i] == 1 {
             let c = cluster_at(floats, words, i);
             if !(c.width == 0.0) {
@@ -83,13 +92,21 @@ fn stretched_by(span: Span, c: Cluster, factor: f32) -> Cluster
 }
 
 // The advance becomes what is taken and the factor, which is kept as length spacing.
-pub fn stretch(span: Span, floats: &mut [[f32; 10]], words: &[[u32; 6]], marks: &[u32], factor: f32)
-    requires { ⌜ (length (now marks) ≤ length (now floats)) × (length (now marks) ≤ length (now words)) ⌝ }
+pub fn stretch(
+    span: Span,
+    floats: &mut [[f32; 10]],
+    words: &[[u32; 6]],
+    marks: &[u32],
+    within: Range,
+    factor: f32,
+)
+    requires { ⌜ (length (now marks) ≤ length (now floats)) × (length (now marks) ≤ length (now words)) × (within .to ≤ length (now marks)) ⌝ }
     ensures { λ _. ⌜ clustersOf (now (floats .exit)) (now (words .entry)) (length (now (marks .entry)))
-        ≡ foldl (modify (stretchedBy rounded span factor)) (clustersOf (now (floats .entry)) (now (words .entry)) (length (now (marks .entry)))) (marked (now (marks .entry))) ⌝ }
+        ≡ foldl (modify (stretchedBy rounded span factor)) (clustersOf (now (floats .entry)) (now (words .entry)) (length (now (marks .entry)))) (markedIn within (now (marks .entry))) ⌝ }
 {
-    let mut i: usize = 0;
-    while i < marks.len() {
+    let to = within.to;
+    let mut i = within.from;
+    while i < to {
         if marks[i] == 1 {
             let c = cluster_at(floats, words, i);
             put_floats(floats, i, stretched_by(span, c, factor));
@@ -108,13 +125,20 @@ fn with_scale(c: Cluster, factor: f32) -> Cluster
 }
 
 // Each cluster is scaled; its width and advance stay.
-pub fn scale(floats: &mut [[f32; 10]], words: &mut [[u32; 6]], marks: &[u32], factor: f32)
-    requires { ⌜ (length (now marks) ≤ length (now floats)) × (length (now marks) ≤ length (now words)) ⌝ }
+pub fn scale(
+    floats: &mut [[f32; 10]],
+    words: &mut [[u32; 6]],
+    marks: &[u32],
+    within: Range,
+    factor: f32,
+)
+    requires { ⌜ (length (now marks) ≤ length (now floats)) × (length (now marks) ≤ length (now words)) × (within .to ≤ length (now marks)) ⌝ }
     ensures { λ _. ⌜ clustersOf (now (floats .exit)) (now (words .exit)) (length (now (marks .entry)))
-        ≡ foldl (modify (withScale factor)) (clustersOf (now (floats .entry)) (now (words .entry)) (length (now (marks .entry)))) (marked (now (marks .entry))) ⌝ }
+        ≡ foldl (modify (withScale factor)) (clustersOf (now (floats .entry)) (now (words .entry)) (length (now (marks .entry)))) (markedIn within (now (marks .entry))) ⌝ }
 {
-    let mut i: usize = 0;
-    while i < marks.len() {
+    let to = within.to;
+    let mut i = within.from;
+    while i < to {
         if marks[i] == 1 {
             let c = cluster_at(floats, words, i);
             put_cluster(floats, words, i, with_scale(c, factor));

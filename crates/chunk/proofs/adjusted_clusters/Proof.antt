@@ -17,7 +17,7 @@ apply-length-adjust-requires c κs =
     let formed = c .before .before .before .before .before .before .before .before .before .before .before .before .before .before .collapsed-clusters in
     let given = c .before .before .before .before .before .before .before .before .before .before .before .before .before .before .before .before .before .before .before .before .before .before .before .before .before .pre in
     let all = formed .ensures .2 in
-    (omega (arith, given .3), omega (arith, given .4), omega (arith, given .1), omega (arith, given .2), omega (arith, formed .ensures .1, given .5), formed .ensures .3)
+    (omega (arith, given .3), omega (arith, given .4), omega (arith, given .1), omega (arith, given .2), omega (arith, formed .ensures .1, given .5), given .6, formed .ensures .3)
 
 enum-told : tie.Need-enum-told
 enum-told c = search needs
@@ -44,8 +44,8 @@ returns c =
     let formed = c .before .before .before .before .before .before .before .before .before .before .before .before .before .before .before .before .before .before .before .before .before .collapsed-clusters in
     let given = c .before .before .before .before .before .before .before .before .before .before .before .before .before .before .before .before .before .before .before .before .before .before .before .before .before .before .before .before .before .before .before .before .pre in
     let all = formed .ensures .2 in
-    let kept = done-kept _ _ _ _ (formed .result) (omega (arith, given .1)) (omega (arith, given .2)) (omega (arith, given .1)) (omega (arith, given .2)) _ (adjusted .result) (c .enum-told .given .1) (adjusted .ensures) in (
-      done-formed (adjusted .result) _ (formed .result) _ (adjusted .ensures ∙ steps _ _ _ _ _ (words .ensures) (formed .ensures .0)) (c .enum-told .given .1),
+    let kept = done-kept _ _ _ _ (formed .result) (omega (arith, given .1)) (omega (arith, given .2)) (omega (arith, given .1)) (omega (arith, given .2)) _ (adjusted .result .adjusted) (c .enum-told .given .1) (adjusted .ensures .0) in (
+      done-formed (adjusted .result .adjusted) _ (formed .result) _ (adjusted .ensures .0 ∙ steps _ _ _ _ _ (words .ensures) (formed .ensures .0)) (c .enum-told .given .1),
       (omega (arith, all), rw kept (formed .ensures .3)),
     )
 
@@ -67,7 +67,7 @@ returns-2 c =
     let words = c .before .before .before .before .before .before .before .before .before .before .before .before .before .apply-word-spacing in
     let formed = c .before .before .before .before .before .before .before .before .before .before .before .before .before .before .before .before .before .before .before .before .before .before .collapsed-clusters in
     let told = c .before .adjusted .given in
-    (refused-formed (adjusted .result) _ (formed .result) _ (adjusted .ensures ∙ steps _ _ _ _ _ (words .ensures) (formed .ensures .0)) (told .0 .0) (told .1), tt)
+    (refused-formed (adjusted .result .adjusted) _ (formed .result) _ (adjusted .ensures .0 ∙ steps _ _ _ _ _ (words .ensures) (formed .ensures .0)) (told .0 .0) (told .1), tt)
 
 pub adjusted-clusters-spec : {M : Type 1} → statement M
 adjusted-clusters-spec =

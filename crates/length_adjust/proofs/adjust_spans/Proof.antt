@@ -1,5 +1,5 @@
 -- `length_adjust::adjust_spans` meets its contract. Assumes nothing.
-use Prim.Native.Nat.{ℕ, _+_, _-_, _≤_, _<_}
+use Prim.Native.Nat.{ℕ, _+_, _-_, _*_, _≤_, _<_}
 use mathlib.Core.Path.{_≡_, refl, sym, ap, _∙_}
 use mathlib.Core.List.{List, foldl}
 use lib.ListN.{length, drop, length-map}
@@ -8,24 +8,28 @@ use Rattle.labels.specs.Job.{blankSpan, spanAt}
 use Rattle.labels.specs.declared.Cluster.{Cluster}
 use Rattle.labels.proofs.Loops.{fold-turn, fold-done}
 use Rattle.labels.specs.Cluster.{adjustSpan, applyLengthAdjust}
+use Rattle.labels.specs.Looked.{spanLooked, spansLooked}
 use Rattle.clusters.specs.Clusters.{clustersOf, indexesIn}
 use Rattle.lookup.specs.Rows.{spansIn}
 use Rattle.length_adjust.specs.Answer.{adjustedOf}
-use Rattle.length_adjust.proofs.Kept.{span-order, refused-stays}
+use Rattle.length_adjust.proofs.Kept.{span-order, refused-stays, looked-turn, looked-done, refused-looks}
 use borrow.Author.Needs.{needs}
 use native.Mathlib.Omega.{arith}
 use Rattle.length_adjust.proofs.adjust_spans.Statement.{statement}
 use Rattle.length_adjust.proofs.adjust_spans.Tie as tie
 
 abbrev Inv-loop : tie.InvT-loop
-Inv-loop s spans keys marks₀ floats₀ words₀ i₀ marks floats words i =
+Inv-loop s spans keys marks₀ floats₀ words₀ looked₀ i₀ marks floats words looked i =
     (length marks ≡ length marks₀) × (length floats ≡ length floats₀) × (length words ≡ length words₀)
     × (indexesIn words (length marks₀) ≡ indexesIn words₀ (length marks₀))
     × (foldl adjustSpan (given (clustersOf floats words (length marks₀))) (drop i (spansIn s spans))
     ≡ applyLengthAdjust (spansIn s spans) (clustersOf floats₀ words₀ (length marks₀)))
+    × (looked ≤ i * 65536)
+    × (looked + spansLooked (given (clustersOf floats words (length marks₀))) (drop i (spansIn s spans))
+    ≡ spansLooked (given (clustersOf floats₀ words₀ (length marks₀))) (spansIn s spans))
 
 abbrev μ-loop : tie.MeasureT-loop
-μ-loop s spans keys marks₀ floats₀ words₀ i₀ marks floats words i = length spans - i
+μ-loop s spans keys marks₀ floats₀ words₀ looked₀ i₀ marks floats words looked i = length spans - i
 
 spans-length : (s spans : List ℕ) → length (spansIn s spans) ≡ length spans
 unfolding spansIn
@@ -41,8 +45,10 @@ in-spans c =
 
 adjusted-span : (c : tie.After-adjust-span Inv-loop μ-loop) → let head = c .before .before .before .before .before .before in let a = head .before .before .before .before .before .args in
     let l = head .loop in let n = length (a .marks .now) in
-    adjustedOf (c .adjust-span .result) (clustersOf (c .adjust-span .last .1 .1 .1 .0) (c .adjust-span .last .1 .1 .1 .1 .0) n)
-    ≡ adjustSpan (given (clustersOf (l .floats) (l .words) n)) (spanAt (spansIn (a .s .now) (a .spans .now)) (l .i))
+    (adjustedOf (c .adjust-span .result .adjusted) (clustersOf (c .adjust-span .last .1 .1 .1 .0) (c .adjust-span .last .1 .1 .1 .1 .0) n)
+    ≡ adjustSpan (given (clustersOf (l .floats) (l .words) n)) (spanAt (spansIn (a .s .now) (a .spans .now)) (l .i)))
+    × (c .adjust-span .result .looked ≡ spanLooked (given (clustersOf (l .floats) (l .words) n)) (spanAt (spansIn (a .s .now) (a .spans .now)) (l .i)))
+    × (c .adjust-span .result .looked < 65536)
 adjusted-span c =
     let read = c .before .before .before .before in
     let l = read .before .before .loop in
@@ -50,7 +56,7 @@ adjusted-span c =
 
 loop-holds : tie.Need-loop-holds Inv-loop μ-loop
 unfolding applyLengthAdjust
-loop-holds c = (refl, refl, refl, refl, refl)
+loop-holds c = (refl, refl, refl, refl, refl, omega arith, omega arith)
 
 span-in-requires : tie.Need-span-in-requires Inv-loop μ-loop
 span-in-requires c κs = search needs
@@ -60,7 +66,14 @@ adjust-span-requires c κs =
     let head = c .before .before .before .before .before in
     let start = head .before .before .before .before .before in
     let l = head .loop in
-    (omega (arith, l .inv, start .pre), omega (arith, l .inv, start .pre), omega (arith, l .inv, start .pre), rw (l .inv .0, l .inv .3) (start .pre .3))
+    (omega (arith, l .inv, start .pre), omega (arith, l .inv, start .pre), omega (arith, l .inv, start .pre), rw (l .inv .0, l .inv .3) (start .pre .4))
+
+add-looked : tie.Need-add-looked Inv-loop μ-loop
+add-looked c =
+    let made = c .before .before .before .before .before in
+    let turn = made .before .before .before .before .before in
+    let l = turn .before .loop in
+    omega (arith, l .inv .5, adjusted-span made .2, turn .loop-test .taken, turn .before .before .before .before .before .before .pre .3)
 
 enum-known-adjusted : tie.Need-enum-known-adjusted Inv-loop μ-loop
 enum-known-adjusted c = search needs
@@ -77,15 +90,21 @@ same-length-3 c = search needs
 returns : tie.Need-returns Inv-loop μ-loop
 unfolding adjustedOf
 returns c =
-    let made = c .before .before .before .before .before .before .before in
+    let made = c .before .before .before .before .before .before .before .before in
     let head = made .before .before .before .before .before .before in
     let a = head .before .before .before .before .before .args in
     let l = head .loop in
     let number = c .before .adjusted .given .0 .0 in
     let spans = spansIn (a .s .now) (a .spans .now) in
-    let stopped : refused number ≡ adjustSpan (given (clustersOf (l .floats) (l .words) (length (a .marks .now)))) (spanAt spans (l .i)) = rw (c .before .adjusted .given .1) at (adjusted-span made) in
-    sym (refused-stays number (drop (l .i + 1) spans)) ∙ ap (λ (o : Outcome (List Cluster)). foldl adjustSpan o (drop (l .i + 1) spans)) stopped
-    ∙ fold-turn adjustSpan _ spans (l .i) blankSpan (in-spans made) ∙ l .inv .4
+    let cs = clustersOf (l .floats) (l .words) (length (a .marks .now)) in
+    let stopped : refused number ≡ adjustSpan (given cs) (spanAt spans (l .i)) = rw (c .before .adjusted .given .1) at (adjusted-span made .0) in
+    let then = drop (l .i + 1) spans in
+    let none : spansLooked (adjustSpan (given cs) (spanAt spans (l .i))) then ≡ 0 = ap (λ (o : Outcome (List Cluster)). spansLooked o then) (sym stopped) ∙ refused-looks number then in (
+      sym (refused-stays number then) ∙ ap (λ (o : Outcome (List Cluster)). foldl adjustSpan o then) stopped
+          ∙ fold-turn adjustSpan _ spans (l .i) blankSpan (in-spans made)
+          ∙ l .inv .4,
+      omega (arith, l .inv .6, looked-turn (given cs) spans (l .i) (in-spans made), adjusted-span made .1, none),
+    )
 
 enum-told : tie.Need-enum-told Inv-loop μ-loop
 enum-told c = search needs
@@ -99,7 +118,7 @@ loop-less c = search needs
 loop-again : tie.Need-loop-again Inv-loop μ-loop
 unfolding adjustedOf
 loop-again c =
-    let made = c .before .before .before .before .before .before in
+    let made = c .before .before .before .before .before .before .before in
     let head = made .before .before .before .before .before .before in
     let start = head .before .before .before .before .before in
     let a = start .args in
@@ -112,7 +131,7 @@ loop-again c =
     let rows = made .adjust-span .kept .1 .1 .1 .0 ∙ l .inv .1 in
     let rows-too = made .adjust-span .kept .1 .1 .1 .1 .0 ∙ l .inv .2 in
     let cs = clustersOf (l .floats) (l .words) n in
-    let gave : given (clustersOf floats words n) ≡ adjustSpan (given cs) (spanAt spans (l .i)) = rw (c .enum-told .given .1) at (adjusted-span made) in
+    let gave : given (clustersOf floats words n) ≡ adjustSpan (given cs) (spanAt spans (l .i)) = rw (c .enum-told .given .1) at (adjusted-span made .0) in
     let same =
     span-order (l .floats) (l .words) floats words n (omega (arith, l .inv .1, start .pre)) (omega (arith, l .inv .2, start .pre))
     (omega (arith, rows, start .pre)) (omega (arith, rows-too, start .pre)) (spanAt spans (l .i)) gave in (
@@ -121,6 +140,8 @@ loop-again c =
       rows-too,
       same ∙ l .inv .3,
       ap (λ (o : Outcome (List Cluster)). foldl adjustSpan o (drop (l .i + 1) spans)) gave ∙ fold-turn adjustSpan (given cs) spans (l .i) blankSpan (in-spans made) ∙ l .inv .4,
+      omega (arith, l .inv .5, adjusted-span made .2),
+      omega (arith, l .inv .6, looked-turn (given cs) spans (l .i) (in-spans made), adjusted-span made .1, ap (λ (o : Outcome (List Cluster)). spansLooked o (drop (l .i + 1) spans)) gave),
     )
 
 same-length-4 : tie.Need-same-length-4 Inv-loop μ-loop
@@ -139,7 +160,8 @@ returns-2 c =
     let l = c .before .loop in
     let spans = spansIn (a .s .now) (a .spans .now) in
     let none : length spans ≤ l .i = rw (spans-length (a .s .now) (a .spans .now)) (c .loop-test .left) in
-    sym (fold-done adjustSpan (given (clustersOf (l .floats) (l .words) (length (a .marks .now)))) spans (l .i) none) ∙ l .inv .4
+    let cs = clustersOf (l .floats) (l .words) (length (a .marks .now)) in
+    (sym (fold-done adjustSpan (given cs) spans (l .i) none) ∙ l .inv .4, omega (arith, l .inv .6, looked-done (given cs) spans (l .i) none))
 
 pub adjust-spans-spec : {M : Type 1} → statement M
 adjust-spans-spec =
@@ -150,6 +172,7 @@ adjust-spans-spec =
     loop-holds
     span-in-requires
     adjust-span-requires
+    add-looked
     enum-known-adjusted
     same-length
     same-length-2

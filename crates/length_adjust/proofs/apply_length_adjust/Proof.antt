@@ -25,7 +25,7 @@ adjust-spans-requires c κs =
     let start = c .before .before .before .before .before .before .before .before in
     let a = start .args in
     let l : length (take (a .n) (a .taking .now)) ≡ a .n = length-take-le (a .n) (a .taking .now) (start .pre .1) in
-    rw l (start .pre .2, start .pre .3, omega (arith, start .pre .4), start .pre .5)
+    rw l (start .pre .2, start .pre .3, omega (arith, start .pre .4), start .pre .5, start .pre .6)
 
 same-length : tie.Need-same-length
 same-length c = search needs

@@ -4,7 +4,7 @@ use lib.ListN.{length}
 use Rattle.labels.specs.LengthAdjust.{sumAt}
 use Rattle.labels.specs.Cluster.{rounded, widthOf}
 use Rattle.clusters.specs.Clusters.{clustersOf}
-use Rattle.length_adjust.specs.Marks.{marked}
+use Rattle.length_adjust.specs.Marks.{markedIn}
 use Rattle.length_adjust.specs.Answer.{adjustedOf}
 use Rattle.length_adjust.proofs.Steps.{widths-taken, glyphs-none, glyphs-refused, glyphs-skipped, glyphs-scaled}
 use borrow.Author.Needs.{needs}
@@ -13,11 +13,11 @@ use Rattle.length_adjust.proofs.glyphs.adjust_glyphs.Tie as tie
 
 -- what is added up are the widths
 widths : (c : tie.After-taken) → let a = c .before .before .before .before .args in
-    c .taken .result ≡ record { sum = sumAt rounded widthOf (clustersOf (a .floats .now) (a .words .now) (length (a .marks .now))) (marked (a .marks .now)); count = length (marked (a .marks .now)) }
+    c .taken .result ≡ record { sum = sumAt rounded widthOf (clustersOf (a .floats .now) (a .words .now) (length (a .marks .now))) (markedIn (a .within) (a .marks .now)); count = length (markedIn (a .within) (a .marks .now)) }
 widths c =
     let start = c .before .before .before .before in
     let a = start .args in
-    c .taken .ensures ∙ widths-taken (a .span) _ (start .pre .2) (marked (a .marks .now))
+    c .taken .ensures ∙ widths-taken (a .span) _ (start .pre .3) (markedIn (a .within) (a .marks .now))
 
 taken-requires : tie.Need-taken-requires
 taken-requires c κs = search needs
@@ -33,7 +33,7 @@ unfolding adjustedOf
 returns c =
     let total = c .before .before in
     let a = total .before .before .before .before .args in
-    sym (glyphs-none (a .span) _ (marked (a .marks .now)) (rw (total .taken .ensures) at (c .if1 .taken)))
+    sym (glyphs-none (a .span) _ (markedIn (a .within) (a .marks .now)) (rw (total .taken .ensures) at (c .if1 .taken)))
 
 all-zero-requires : tie.Need-all-zero-requires
 all-zero-requires c κs = search needs
@@ -51,7 +51,7 @@ returns-2 c =
     let some = zero .before .before .before in
     let total = some .before .before in
     let a = total .before .before .before .before .args in
-    sym (glyphs-refused (a .span) _ (marked (a .marks .now)) (rw (total .taken .ensures) at (some .if1 .left)) (sym (zero .all-zero .ensures) ∙ c .if2 .taken))
+    sym (glyphs-refused (a .span) _ (markedIn (a .within) (a .marks .now)) (rw (total .taken .ensures) at (some .if1 .left)) (sym (zero .all-zero .ensures) ∙ c .if2 .taken))
 
 same-length-5 : tie.Need-same-length-5
 same-length-5 c = search needs
@@ -67,7 +67,7 @@ returns-3 c =
     let some = zero .before .before .before in
     let total = some .before .before in
     let a = total .before .before .before .before .args in
-    sym (glyphs-skipped (a .span) _ (marked (a .marks .now)) (rw (total .taken .ensures) at (some .if1 .left)) (sym (zero .all-zero .ensures) ∙ wide .if2 .left)
+    sym (glyphs-skipped (a .span) _ (markedIn (a .within) (a .marks .now)) (rw (total .taken .ensures) at (some .if1 .left)) (sym (zero .all-zero .ensures) ∙ wide .if2 .left)
     (rw (widths total) at (c .if3 .taken)))
 
 scale-requires : tie.Need-scale-requires
@@ -90,7 +90,7 @@ returns-4 c =
     let total = some .before .before in
     let a = total .before .before .before .before .args in
     rw (made .scale .ensures, widths total)
-    (sym (glyphs-scaled (a .span) _ (marked (a .marks .now)) (rw (total .taken .ensures) at (some .if1 .left)) (sym (zero .all-zero .ensures) ∙ wide .if2 .left)
+    (sym (glyphs-scaled (a .span) _ (markedIn (a .within) (a .marks .now)) (rw (total .taken .ensures) at (some .if1 .left)) (sym (zero .all-zero .ensures) ∙ wide .if2 .left)
     (rw (widths total) at (large .if3 .left))))
 
 pub adjust-glyphs-spec : {M : Type 1} → statement M

@@ -6,7 +6,7 @@ use Rattle.labels.specs.LengthAdjust.{placesFrom, clusterIndexes}
 use Rattle.labels.specs.Cluster.{rounded}
 use Rattle.clusters.specs.Clusters.{clustersOf}
 use Rattle.clusters.proofs.Rows.{clusters-indexes}
-use Rattle.length_adjust.specs.Marks.{marked}
+use Rattle.length_adjust.specs.Marks.{markedIn}
 use Rattle.length_adjust.proofs.Walks.{marked-few}
 use Rattle.length_adjust.proofs.Steps.{spaced-at}
 use native.Mathlib.Omega.{arith}
@@ -20,7 +20,7 @@ taken-requires c κs = search needs
 spacing-factor-requires : tie.Need-spacing-factor-requires
 spacing-factor-requires c κs =
     let a = c .before .before .before .args in
-    rw (c .taken .ensures) (omega (arith, marked-few 0 (a .marks .now), c .before .before .before .pre))
+    rw (c .taken .ensures) (omega (arith, marked-few (a .within) (a .marks .now), c .before .before .before .pre))
 
 stretch-requires : tie.Need-stretch-requires
 stretch-requires c κs = search needs
@@ -37,9 +37,9 @@ returns c =
     let a = start .args in
     let n = length (a .marks .now) in
     let cs = clustersOf (a .floats .now) (a .words .now) n in
-    let same : marked (a .marks .now) ≡ clusterIndexes rounded (a .span) cs =
-    start .pre .3 ∙ ap (placesFrom (a .span) [] 0) (sym (clusters-indexes (a .floats .now) (a .words .now) n (start .pre .0) (start .pre .1))) in
-    rw (made .stretch .ensures, factor .spacing-factor .ensures, total .taken .ensures, spaced-at (a .span) cs (marked (a .marks .now)) same)
+    let same : markedIn (a .within) (a .marks .now) ≡ clusterIndexes rounded (a .span) cs =
+    start .pre .4 ∙ ap (placesFrom (a .span) [] 0) (sym (clusters-indexes (a .floats .now) (a .words .now) n (start .pre .0) (start .pre .1))) in
+    rw (made .stretch .ensures, factor .spacing-factor .ensures, total .taken .ensures, spaced-at (a .span) cs (markedIn (a .within) (a .marks .now)) same)
 
 pub adjust-spacing-spec : {M : Type 1} → statement M
 adjust-spacing-spec =

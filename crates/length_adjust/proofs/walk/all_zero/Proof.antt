@@ -7,12 +7,12 @@ use Rattle.labels.specs.Cluster.{widthOf}
 use Prim.Native.Nat.{ℕ, _+_, _-_}
 use mathlib.Core.Path.{_≡_, refl, sym, ap, _∙_}
 use mathlib.Core.Bool.{Bool, true, false}
-use lib.ListN.{length, drop}
+use lib.ListN.{length, take, drop}
 use borrow.Author.Tests.{not-true, not-false}
 use Rattle.labels.specs.Lists.{all, atOr}
 use Rattle.clusters.specs.Clusters.{clustersOf}
 use Rattle.clusters.proofs.Turns.{cluster-get}
-use Rattle.length_adjust.specs.Marks.{markedFrom, marked}
+use Rattle.length_adjust.specs.Marks.{markedFrom, markedIn}
 use Rattle.length_adjust.proofs.Walks.{walked, walk-on, walk-past, walk-done, and-at, all-walk}
 use borrow.Author.Needs.{needs}
 use native.Mathlib.Omega.{arith}
@@ -23,14 +23,14 @@ abbrev zero-width : List (List Float) → List (List ℕ) → ℕ → ℕ → Bo
 zero-width floats words n k = isZero (atOr +0 widthOf (clustersOf floats words n) k)
 
 abbrev Inv-loop : tie.InvT-loop
-Inv-loop floats words marks i₀ i =
-    walked (and-at (zero-width floats words (length marks))) true marks i ≡ all (zero-width floats words (length marks)) (marked marks)
+Inv-loop floats words marks to i₀ i =
+    walked (and-at (zero-width floats words (length marks))) true marks to i ≡ all (zero-width floats words (length marks)) (markedIn (record { from = i₀; to = to }) marks)
 
 abbrev μ-loop : tie.MeasureT-loop
-μ-loop floats words marks i₀ i = length marks - i
+μ-loop floats words marks to i₀ i = to - i
 
 loop-holds : tie.Need-loop-holds Inv-loop μ-loop
-loop-holds c = let a = c .before .args in all-walk (zero-width (a .floats .now) (a .words .now) (length (a .marks .now))) true (marked (a .marks .now))
+loop-holds c = let a = c .before .args in all-walk (zero-width (a .floats .now) (a .words .now) (length (a .marks .now))) true (markedIn (a .within) (a .marks .now))
 
 mul-if1 : tie.Need-mul-if1 Inv-loop μ-loop
 mul-if1 c = search needs
@@ -51,9 +51,9 @@ returns c =
     let zero = zero-width (a .floats .now) (a .words .now) n in
     let read = c .before .before in
     let h = turn .loop-test .taken in
-    let here = cluster-get (a .floats .now) (a .words .now) n (l .i) (read .cluster-at .result) (read .cluster-at .ensures) h (omega arith) (omega arith) +0 widthOf in
-    sym (all-walk zero false (markedFrom (l .i + 1) (drop (l .i + 1) (a .marks .now))))
-    ∙ walk-on (and-at zero) true false (a .marks .now) (l .i) h (read .before .if1 .taken) (sym (ap isZero here ∙ not-true _ (c .if2 .taken)))
+    let here = cluster-get (a .floats .now) (a .words .now) n (l .i) (read .cluster-at .result) (read .cluster-at .ensures) (omega arith) (omega arith) (omega arith) +0 widthOf in
+    sym (all-walk zero false (markedFrom (l .i + 1) (take (a .within .to - (l .i + 1)) (drop (l .i + 1) (a .marks .now)))))
+    ∙ walk-on (and-at zero) true false (a .marks .now) (a .within .to) (l .i) h (omega arith) (read .before .if1 .taken) (sym (ap isZero here ∙ not-true _ (c .if2 .taken)))
     ∙ l .inv
 
 add-i : tie.Need-add-i Inv-loop μ-loop
@@ -73,17 +73,17 @@ loop-again c =
     let h = turn .loop-test .taken in
     ⊎-elim
     (λ w.
-    walk-on (and-at zero) true true (a .marks .now) (l .i) h (w .0 .taken)
-    (sym (ap isZero (cluster-get (a .floats .now) (a .words .now) n (l .i) (w .1 .result) (w .1 .ensures) h (omega arith) (omega arith) +0 widthOf) ∙ not-false _ (w .3 .left)))
+    walk-on (and-at zero) true true (a .marks .now) (a .within .to) (l .i) h (omega arith) (w .0 .taken)
+    (sym (ap isZero (cluster-get (a .floats .now) (a .words .now) n (l .i) (w .1 .result) (w .1 .ensures) (omega arith) (omega arith) (omega arith) +0 widthOf) ∙ not-false _ (w .3 .left)))
     ∙ l .inv)
-    (λ w. walk-past (and-at zero) true true (a .marks .now) (l .i) h (w .left) refl ∙ l .inv)
+    (λ w. walk-past (and-at zero) true true (a .marks .now) (a .within .to) (l .i) h (omega arith) (w .left) refl ∙ l .inv)
     (c .if1 .came)
 
 returns-2 : tie.Need-returns-2 Inv-loop μ-loop
 returns-2 c =
     let a = c .before .before .before .args in
     let l = c .before .loop in
-    sym (walk-done (and-at (zero-width (a .floats .now) (a .words .now) (length (a .marks .now)))) true (a .marks .now) (l .i) (c .loop-test .left)) ∙ l .inv
+    sym (walk-done (and-at (zero-width (a .floats .now) (a .words .now) (length (a .marks .now)))) true (a .marks .now) (a .within .to) (l .i) (c .loop-test .left)) ∙ l .inv
 
 pub all-zero-spec : {M : Type 1} → statement M
 all-zero-spec =

@@ -8,7 +8,7 @@ use Rattle.labels.specs.Lists.{modify}
 use Rattle.labels.specs.ClusterParts.{withScale}
 use Rattle.clusters.specs.Clusters.{clustersOf}
 use Rattle.clusters.proofs.Turns.{cluster-modify}
-use Rattle.length_adjust.specs.Marks.{marked}
+use Rattle.length_adjust.specs.Marks.{markedIn}
 use Rattle.length_adjust.proofs.Walks.{walked, walk-on, walk-past, walk-done}
 use borrow.Author.Needs.{needs}
 use native.Mathlib.Omega.{arith}
@@ -16,13 +16,13 @@ use Rattle.length_adjust.proofs.walk.scale.Statement.{statement}
 use Rattle.length_adjust.proofs.walk.scale.Tie as tie
 
 abbrev Inv-loop : tie.InvT-loop
-Inv-loop floats₀ words₀ marks factor i₀ floats words i =
+Inv-loop floats₀ words₀ marks factor to i₀ floats words i =
     (length floats ≡ length floats₀) × (length words ≡ length words₀)
-    × (walked (modify (withScale factor)) (clustersOf floats words (length marks)) marks i
-    ≡ foldl (modify (withScale factor)) (clustersOf floats₀ words₀ (length marks)) (marked marks))
+    × (walked (modify (withScale factor)) (clustersOf floats words (length marks)) marks to i
+    ≡ foldl (modify (withScale factor)) (clustersOf floats₀ words₀ (length marks)) (markedIn (record { from = i₀; to = to }) marks))
 
 abbrev μ-loop : tie.MeasureT-loop
-μ-loop floats₀ words₀ marks factor i₀ floats words i = length marks - i
+μ-loop floats₀ words₀ marks factor to i₀ floats words i = to - i
 
 loop-holds : tie.Need-loop-holds Inv-loop μ-loop
 loop-holds c = search needs
@@ -62,16 +62,16 @@ loop-again c =
     ⊎-elim
     (λ w.
     let set-there : then ≡ step now (l .i) =
-    cluster-modify (l .floats) (l .words) n (l .i) (w .3 .result) (w .3 .ensures) h (omega arith) (omega arith) (withScale (a .factor)) (w .6 .result)
+    cluster-modify (l .floats) (l .words) n (l .i) (w .3 .result) (w .3 .ensures) (omega arith) (omega arith) (omega arith) (withScale (a .factor)) (w .6 .result)
     (w .6 .ensures) (w .10 ∙ w .7 .ensures .0) (w .11 ∙ w .7 .ensures .1) in (
       ap {B = _} length (w .10) ∙ w .7 .kept .0 ∙ l .inv .0,
       ap {B = _} length (w .11) ∙ w .7 .kept .1 .0 ∙ l .inv .1,
-      walk-on step now then (a .marks .now) (l .i) h (w .0 .taken) set-there ∙ l .inv .2,
+      walk-on step now then (a .marks .now) (a .within .to) (l .i) h (omega arith) (w .0 .taken) set-there ∙ l .inv .2,
     ))
     (λ w. (
       ap {B = _} length (w .1) ∙ l .inv .0,
       ap {B = _} length (w .2) ∙ l .inv .1,
-      walk-past step now then (a .marks .now) (l .i) h (w .0 .left) (rw (w .1, w .2)) ∙ l .inv .2,
+      walk-past step now then (a .marks .now) (a .within .to) (l .i) h (omega arith) (w .0 .left) (rw (w .1, w .2)) ∙ l .inv .2,
     ))
     (c .if1 .came)
 
@@ -85,7 +85,7 @@ returns : tie.Need-returns Inv-loop μ-loop
 returns c =
     let a = c .before .before .before .args in
     let l = c .before .loop in
-    sym (walk-done (modify (withScale (a .factor))) (clustersOf (l .floats) (l .words) (length (a .marks .now))) (a .marks .now) (l .i) (c .loop-test .left)) ∙ l .inv .2
+    sym (walk-done (modify (withScale (a .factor))) (clustersOf (l .floats) (l .words) (length (a .marks .now))) (a .marks .now) (a .within .to) (l .i) (c .loop-test .left)) ∙ l .inv .2
 
 pub scale-spec : {M : Type 1} → statement M
 scale-spec =

@@ -11,7 +11,7 @@ use Rattle.labels.specs.Cluster.{rounded}
 use Rattle.clusters.specs.Clusters.{clustersOf}
 use Rattle.clusters.proofs.Rows.{line-back}
 use Rattle.clusters.proofs.Turns.{floats-modify}
-use Rattle.length_adjust.specs.Marks.{marked}
+use Rattle.length_adjust.specs.Marks.{markedIn}
 use Rattle.length_adjust.proofs.Walks.{walked, walk-on, walk-past, walk-done}
 use borrow.Author.Needs.{needs}
 use native.Mathlib.Omega.{arith}
@@ -19,13 +19,13 @@ use Rattle.length_adjust.proofs.walk.stretch.Statement.{statement}
 use Rattle.length_adjust.proofs.walk.stretch.Tie as tie
 
 abbrev Inv-loop : tie.InvT-loop
-Inv-loop span floats₀ words marks factor i₀ floats i =
+Inv-loop span floats₀ words marks factor to i₀ floats i =
     (length floats ≡ length floats₀)
-    × (walked (modify (stretchedBy rounded span factor)) (clustersOf floats words (length marks)) marks i
-    ≡ foldl (modify (stretchedBy rounded span factor)) (clustersOf floats₀ words (length marks)) (marked marks))
+    × (walked (modify (stretchedBy rounded span factor)) (clustersOf floats words (length marks)) marks to i
+    ≡ foldl (modify (stretchedBy rounded span factor)) (clustersOf floats₀ words (length marks)) (markedIn (record { from = i₀; to = to }) marks))
 
 abbrev μ-loop : tie.MeasureT-loop
-μ-loop span floats₀ words marks factor i₀ floats i = length marks - i
+μ-loop span floats₀ words marks factor to i₀ floats i = to - i
 
 loop-holds : tie.Need-loop-holds Inv-loop μ-loop
 loop-holds c = search needs
@@ -67,11 +67,11 @@ loop-again c =
     let row = w .2 .result in
     let same = line-back (row .width) (takenOf rounded (a .span) row +ᶠ a .factor) (a .factor) (row .x) (row .y) (getD (l .floats) (l .i) []) (getD (a .words .now) (l .i) []) (w .2 .ensures) in
     let set-there : then ≡ step now (l .i) =
-    floats-modify (l .floats) (a .words .now) n (l .i) row (w .2 .ensures) h (omega arith) (omega arith) (stretchedBy rounded (a .span) (a .factor)) (w .4 .result)
+    floats-modify (l .floats) (a .words .now) n (l .i) row (w .2 .ensures) (omega arith) (omega arith) (omega arith) (stretchedBy rounded (a .span) (a .factor)) (w .4 .result)
     (w .4 .ensures) (w .7 ∙ w .5 .ensures) (rw (w .4 .ensures) same) in
-    (ap {B = _} length (w .7) ∙ w .5 .kept .0 ∙ l .inv .0, walk-on step now then (a .marks .now) (l .i) h (w .0 .taken) set-there ∙ l .inv .1))
+    (ap {B = _} length (w .7) ∙ w .5 .kept .0 ∙ l .inv .0, walk-on step now then (a .marks .now) (a .within .to) (l .i) h (omega arith) (w .0 .taken) set-there ∙ l .inv .1))
     (λ w.
-    (ap {B = _} length (w .1) ∙ l .inv .0, walk-past step now then (a .marks .now) (l .i) h (w .0 .left) (rw (w .1)) ∙ l .inv .1))
+    (ap {B = _} length (w .1) ∙ l .inv .0, walk-past step now then (a .marks .now) (a .within .to) (l .i) h (omega arith) (w .0 .left) (rw (w .1)) ∙ l .inv .1))
     (c .if1 .came)
 
 same-length : tie.Need-same-length Inv-loop μ-loop
@@ -81,7 +81,7 @@ returns : tie.Need-returns Inv-loop μ-loop
 returns c =
     let a = c .before .before .before .args in
     let l = c .before .loop in
-    sym (walk-done (modify (stretchedBy rounded (a .span) (a .factor))) (clustersOf (l .floats) (a .words .now) (length (a .marks .now))) (a .marks .now) (l .i) (c .loop-test .left)) ∙ l .inv .1
+    sym (walk-done (modify (stretchedBy rounded (a .span) (a .factor))) (clustersOf (l .floats) (a .words .now) (length (a .marks .now))) (a .marks .now) (a .within .to) (l .i) (c .loop-test .left)) ∙ l .inv .1
 
 pub stretch-spec : {M : Type 1} → statement M
 stretch-spec =

@@ -12,7 +12,7 @@ use Rattle.labels.specs.LengthAdjust.{sumAt, takenOf}
 use Rattle.labels.specs.Cluster.{rounded}
 use Rattle.clusters.specs.Clusters.{clustersOf}
 use Rattle.clusters.proofs.Turns.{cluster-get}
-use Rattle.length_adjust.specs.Marks.{marked}
+use Rattle.length_adjust.specs.Marks.{markedIn}
 use Rattle.length_adjust.proofs.Walks.{walked, walk-on, walk-past, walk-done, one-more, count-walk}
 use borrow.Author.Needs.{needs}
 use native.Mathlib.Omega.{arith}
@@ -23,15 +23,15 @@ abbrev add-taken : Span → List (List Float) → List (List ℕ) → ℕ → Fl
 add-taken span floats words n w k = w +ᶠ atOr +0 (takenOf rounded span) (clustersOf floats words n) k
 
 abbrev Inv-loop : tie.InvT-loop
-Inv-loop span floats words marks sum₀ count₀ i₀ sum count i =
-    (count ≤ i) × (walked (add-taken span floats words (length marks)) sum marks i ≡ sumAt rounded (takenOf rounded span) (clustersOf floats words (length marks)) (marked marks))
-    × (walked one-more count marks i ≡ length (marked marks))
+Inv-loop span floats words marks sum₀ count₀ to i₀ sum count i =
+    (count ≤ i) × (walked (add-taken span floats words (length marks)) sum marks to i ≡ sumAt rounded (takenOf rounded span) (clustersOf floats words (length marks)) (markedIn (record { from = i₀; to = to }) marks))
+    × (walked one-more count marks to i ≡ length (markedIn (record { from = i₀; to = to }) marks))
 
 abbrev μ-loop : tie.MeasureT-loop
-μ-loop span floats words marks sum₀ count₀ i₀ sum count i = length marks - i
+μ-loop span floats words marks sum₀ count₀ to i₀ sum count i = to - i
 
 loop-holds : tie.Need-loop-holds Inv-loop μ-loop
-loop-holds c = let a = c .before .args in (omega arith, refl, count-walk 0 (marked (a .marks .now)) ∙ omega arith)
+loop-holds c = let a = c .before .args in (omega arith, refl, count-walk 0 (markedIn (a .within) (a .marks .now)) ∙ omega arith)
 
 mul-if1 : tie.Need-mul-if1 Inv-loop μ-loop
 mul-if1 c = search needs
@@ -65,15 +65,15 @@ loop-again c =
     ⊎-elim
     (λ w. (
       omega arith,
-      walk-on add (l .sum) (c .if1 .sum) (a .marks .now) (l .i) h (w .0 .taken)
-          (w .3 ∙ ap (λ (x : Float). l .sum +ᶠ x) (w .2 .ensures ∙ sym (cluster-get (a .floats .now) (a .words .now) n (l .i) (w .1 .result) (w .1 .ensures) h (omega arith) (omega arith) +0 (takenOf rounded (a .span)))))
+      walk-on add (l .sum) (c .if1 .sum) (a .marks .now) (a .within .to) (l .i) h (omega arith) (w .0 .taken)
+          (w .3 ∙ ap (λ (x : Float). l .sum +ᶠ x) (w .2 .ensures ∙ sym (cluster-get (a .floats .now) (a .words .now) n (l .i) (w .1 .result) (w .1 .ensures) (omega arith) (omega arith) (omega arith) +0 (takenOf rounded (a .span)))))
           ∙ l .inv .1,
-      walk-on one-more (l .count) (c .if1 .count) (a .marks .now) (l .i) h (w .0 .taken) (w .4) ∙ l .inv .2,
+      walk-on one-more (l .count) (c .if1 .count) (a .marks .now) (a .within .to) (l .i) h (omega arith) (w .0 .taken) (w .4) ∙ l .inv .2,
     ))
     (λ w. (
       omega arith,
-      walk-past add (l .sum) (c .if1 .sum) (a .marks .now) (l .i) h (w .0 .left) (w .1) ∙ l .inv .1,
-      walk-past one-more (l .count) (c .if1 .count) (a .marks .now) (l .i) h (w .0 .left) (w .2) ∙ l .inv .2,
+      walk-past add (l .sum) (c .if1 .sum) (a .marks .now) (a .within .to) (l .i) h (omega arith) (w .0 .left) (w .1) ∙ l .inv .1,
+      walk-past one-more (l .count) (c .if1 .count) (a .marks .now) (a .within .to) (l .i) h (omega arith) (w .0 .left) (w .2) ∙ l .inv .2,
     ))
     (c .if1 .came)
 
@@ -82,8 +82,8 @@ returns c =
     let a = c .before .before .before .args in
     let l = c .before .loop in
     let n = length (a .marks .now) in
-    let s = walk-done (add-taken (a .span) (a .floats .now) (a .words .now) n) (l .sum) (a .marks .now) (l .i) (c .loop-test .left) in
-    let k = walk-done one-more (l .count) (a .marks .now) (l .i) (c .loop-test .left) in
+    let s = walk-done (add-taken (a .span) (a .floats .now) (a .words .now) n) (l .sum) (a .marks .now) (a .within .to) (l .i) (c .loop-test .left) in
+    let k = walk-done one-more (l .count) (a .marks .now) (a .within .to) (l .i) (c .loop-test .left) in
     rw (← l .inv .1, ← l .inv .2, s, k)
 
 pub taken-spec : {M : Type 1} → statement M

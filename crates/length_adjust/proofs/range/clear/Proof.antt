@@ -1,23 +1,23 @@
--- `length_adjust::find::clear` meets its contract. Assumes nothing.
+-- `length_adjust::range::clear` meets its contract. Assumes nothing.
 use Prim.Native.Nat.{_≤_, _-_}
-use mathlib.Core.Path.{_≡_, refl, ap, _∙_}
-use mathlib.Core.List.{_++_, append-nil}
+use mathlib.Core.Path.{_≡_, refl, _∙_}
 use native.Mathlib.Omega.{arith}
-use lib.ListN.{length, drop, set, replicate, length-set}
-use lib.Seq.{drop-length}
+use lib.ListN.{length, take, drop, replicate, length-set}
+use Rattle.length_adjust.proofs.Places.{clear-turn}
 use borrow.Author.Needs.{needs}
-use borrow.Author.Fill.{fill-more}
-use Rattle.length_adjust.proofs.find.clear.Statement.{statement}
-use Rattle.length_adjust.proofs.find.clear.Tie as tie
+use Rattle.length_adjust.proofs.range.clear.Statement.{statement}
+use Rattle.length_adjust.proofs.range.clear.Tie as tie
 
 abbrev Inv-loop : tie.InvT-loop
-Inv-loop marks₀ i₀ marks i = (i ≤ length marks₀) × (length marks ≡ length marks₀) × (marks ≡ replicate i 0 ++ drop i marks₀)
+Inv-loop marks₀ to i₀ marks i =
+    (length marks ≡ length marks₀) × (i₀ ≤ i) × (i - i₀ ≤ to - i₀)
+    × (take (i - i₀) (drop (i₀) marks) ≡ replicate (i - i₀) 0)
 
 abbrev μ-loop : tie.MeasureT-loop
-μ-loop marks₀ i₀ marks i = length marks₀ - i
+μ-loop marks₀ to i₀ marks i = to - i
 
 loop-holds : tie.Need-loop-holds Inv-loop μ-loop
-loop-holds c = (omega arith, refl, refl)
+loop-holds c = let f = c .args .within .from in let e : f - f ≡ 0 = omega arith in (refl, omega arith, omega arith, rw e)
 
 mul-marks : tie.Need-mul-marks Inv-loop μ-loop
 mul-marks c = search needs
@@ -35,9 +35,10 @@ loop-again : tie.Need-loop-again Inv-loop μ-loop
 loop-again c =
     let a = c .before .before .args in
     let l = c .before .loop in (
+      length-set (l .marks) (l .i) _ ∙ l .inv .0,
       omega arith,
-      length-set (l .marks) (l .i) _ ∙ l .inv .1,
-      ap {B = _} (λ ms. set ms (l .i) 0) (l .inv .2) ∙ fill-more (l .i) 0 (a .marks .now) (omega arith),
+      omega arith,
+      clear-turn (l .marks) (a .within .from) (l .i) (l .inv .1) (omega (arith, l .inv .0)) (l .inv .3),
     )
 
 same-length : tie.Need-same-length Inv-loop μ-loop
@@ -47,8 +48,8 @@ returns : tie.Need-returns Inv-loop μ-loop
 returns c =
     let a = c .before .before .args in
     let l = c .before .loop in
-    let e : l .i ≡ length (a .marks .now) = omega arith in
-    l .inv .2 ∙ rw (e, drop-length (a .marks .now)) (append-nil _)
+    let e : l .i - a .within .from ≡ a .within .to - a .within .from = omega arith in
+    rw e at (l .inv .3)
 
 pub clear-spec : {M : Type 1} → statement M
 clear-spec =

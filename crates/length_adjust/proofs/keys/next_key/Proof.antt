@@ -1,12 +1,12 @@
--- `length_adjust::find::next_key` meets its contract. Assumes nothing.
+-- `length_adjust::keys::next_key` meets its contract. Assumes nothing.
 use Prim.Native.Nat.{_+_, _-_}
 use mathlib.Core.Path.{_≡_, sym, _∙_}
 use lib.ListN.{length, drop}
 use Rattle.length_adjust.specs.Marks.{below}
-use Rattle.length_adjust.proofs.Keys.{next-on, next-here, next-none}
+use Rattle.length_adjust.proofs.Passed.{next-on, next-here, next-none}
 use borrow.Author.Needs.{needs}
-use Rattle.length_adjust.proofs.find.next_key.Statement.{statement}
-use Rattle.length_adjust.proofs.find.next_key.Tie as tie
+use Rattle.length_adjust.proofs.keys.next_key.Statement.{statement}
+use Rattle.length_adjust.proofs.keys.next_key.Tie as tie
 
 abbrev Inv-loop : tie.InvT-loop
 Inv-loop keys k b j₀ j = j + below b (drop j keys) ≡ k + below b (drop k keys)
