@@ -4,6 +4,7 @@ use oracle::job::{Chunk, Glyph, Job, Span, NATURAL};
 use oracle::label::label;
 
 use crate::encode::encode;
+use crate::lengths::{clear_lengths, long_text};
 use crate::side::Side;
 
 /// A class of labels, and the most that the library's time may be as a share of what it stands beside.
@@ -40,9 +41,9 @@ pub fn classes() -> Vec<Class> {
         let side = Side::Rust;
         class(name, target, job, Beside { side, class: name })
     };
-    let spaced = Beside {
+    let own = |class| Beside {
         side: Side::Library,
-        class: "text-length",
+        class,
     };
     vec![
         rust("short", 0.3, label()),
@@ -51,7 +52,9 @@ pub fn classes() -> Vec<Class> {
         rust("text-length", 0.03, text_length()),
         rust("chunks", 0.35, sixteen_chunks()),
         rust("merge", 0.1, merge()),
-        class("natural-length", 1.05, natural_length(), spaced),
+        rust("long-text", 1.0, clear_lengths(long_text())),
+        class("long-lengths", 1.2, long_text(), own("long-text")),
+        class("natural-length", 1.05, natural_length(), own("text-length")),
     ]
 }
 
@@ -69,7 +72,7 @@ pub fn of_clusters(count: usize) -> Vec<u8> {
 }
 
 /// The worked label's chunk with another text: one glyph for each character, all in one span.
-fn one_span(text: &str, tag: &[u8; 4]) -> Chunk {
+pub fn one_span(text: &str, tag: &[u8; 4]) -> Chunk {
     let mut chunk = label().chunks.remove(0);
     let span = &mut chunk.spans[0];
     span.glyphs = glyphs(text, tag);

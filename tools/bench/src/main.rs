@@ -4,6 +4,7 @@ mod classes;
 #[path = "../../beside/src/encode.rs"]
 mod encode;
 mod instructions;
+mod lengths;
 #[path = "../../beside/src/library.rs"]
 mod library;
 mod side;
@@ -33,6 +34,7 @@ fn main() -> Done {
             println!("the best of some rounds; the lent buffer is not cleared between calls");
             times::print_classes()?;
             times::print_growth();
+            times::print_spans();
             Ok(())
         }
         ["instructions"] => instructions::print(),

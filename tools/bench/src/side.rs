@@ -3,6 +3,8 @@
 use std::error::Error;
 
 use crate::classes::{classes, of_clusters};
+use crate::encode::encode;
+use crate::lengths::{of_spans, Order};
 use crate::library;
 
 #[derive(Clone, Copy, PartialEq)]
@@ -54,6 +56,7 @@ pub fn agree() -> Result<(), Box<dyn Error>> {
     let classes = classes().into_iter();
     let mut jobs: Vec<(Vec<u8>, Side)> = classes.map(|c| (c.job, c.beside.side)).collect();
     jobs.extend([64, 1_024].map(|clusters| (of_clusters(clusters), Side::Rust)));
+    jobs.extend(Order::ALL.map(|order| (encode(&of_spans(32, order)), Side::Rust)));
     for (job, beside) in jobs {
         let (mut one, mut other) = (buffer(), buffer());
         let returned = call(Side::Library, &job, &mut one);

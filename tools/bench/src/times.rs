@@ -3,11 +3,14 @@
 use std::time::{Duration, Instant};
 
 use crate::classes::{classes, job_of, of_clusters};
+use crate::encode::encode;
+use crate::lengths::{clear_lengths, of_spans, Order};
 use crate::side::{buffer, call, Side};
 
 const ROUNDS: usize = 25;
 const ROUND: Duration = Duration::from_millis(4);
 const MOST_GROWTH: f64 = 2.2;
+const MOST_FOR_LENGTHS: f64 = 1.2;
 
 /// The library's on a job, and what it stands beside.
 struct Times {
@@ -58,6 +61,27 @@ pub fn print_growth() {
             }
         }
         last = Some(times);
+    }
+}
+
+/// 1,024 clusters in spans doubled from 1 to 32, each with a text length, beside the same job without them.
+pub fn print_spans() {
+    println!("spans  order           library ns  without lengths   share  the lengths ns");
+    for order in Order::ALL {
+        for count in [1, 2, 4, 8, 16, 32] {
+            let job = of_spans(count, order);
+            let without = encode(&clear_lengths(job.clone()));
+            let times = measure(&encode(&job), Side::Library, &without);
+            let share = times.library / times.beside;
+            println!(
+                "{count:>5}  {:<13} {:>12.0} {:>16.0} {share:>7.3} {:>15.0} {}",
+                order.name(),
+                times.library,
+                times.beside,
+                times.library - times.beside,
+                verdict(share <= MOST_FOR_LENGTHS)
+            );
+        }
     }
 }
 
