@@ -2,6 +2,8 @@
 
 #[path = "../oracle/amend.rs"]
 mod amend;
+#[path = "../oracle/change.rs"]
+mod change;
 #[path = "../oracle/copy.rs"]
 mod copy;
 #[path = "../oracle/cut.rs"]
@@ -11,6 +13,7 @@ fn main() {
     for file in [
         "build.rs",
         "../oracle/amend.rs",
+        "../oracle/change.rs",
         "../oracle/natural.rs",
         "../oracle/cut.rs",
         "../oracle/copy.rs",

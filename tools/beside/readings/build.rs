@@ -2,6 +2,8 @@
 
 #[path = "../oracle/amend.rs"]
 mod amend;
+#[path = "../oracle/change.rs"]
+mod change;
 #[path = "../oracle/copy.rs"]
 mod copy;
 #[path = "../oracle/cut.rs"]
@@ -16,6 +18,7 @@ fn main() {
         "edits.rs",
         "list.txt",
         "../oracle/amend.rs",
+        "../oracle/change.rs",
         "../oracle/natural.rs",
         "../oracle/cut.rs",
         "../oracle/copy.rs",
