@@ -12,6 +12,7 @@ pub mod labels;
 pub mod left_out;
 pub mod library;
 pub mod limits;
+pub mod looked;
 pub mod near;
 pub mod random;
 pub mod reach;

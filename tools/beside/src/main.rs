@@ -11,7 +11,7 @@ use std::{env, fs};
 use beside::cases::{self, Case};
 use beside::compare::{Lender, Tallies};
 use beside::text::Text;
-use beside::{climb, near, reach, store, tell};
+use beside::{climb, looked, near, reach, store, tell};
 
 const USAGE: &str = "\
 beside run SEED COUNT       the library beside the Rust, on jobs of every kind; those that document 02 has laid out otherwise apart
@@ -25,7 +25,7 @@ beside climb SEED COUNT     the same, searched for by that many changes of jobs
 beside store COUNT DIR      jobs for crates/replay, chosen for what they show, with the right answers
 beside replay DIR           the library beside the answers of such jobs
 beside answer FILE LENT     a job's number and answer, in hex
-beside gen SEED COUNT DIR   small cases for `evaluate`
+beside gen SEED COUNT DIR   small cases for `evaluate`, and the bytes that step 6 looks at in the accepted ones
 ";
 
 type Done = Result<(), Box<dyn Error>>;
@@ -84,9 +84,13 @@ fn answer_file(file: &str, lent: usize) -> Done {
 
 fn write_cases(seed: u64, count: usize, dir: &Path) -> Done {
     fs::create_dir_all(dir)?;
-    let mut file = fs::File::create(dir.join("cases.txt"))?;
+    let mut cases = fs::File::create(dir.join("cases.txt"))?;
+    let mut accepted = fs::File::create(dir.join("looked.txt"))?;
     for case in cases::small(seed, count) {
-        writeln!(file, "{}", case.line())?;
+        writeln!(cases, "{}", case.line())?;
+        if let Some(line) = looked::line(&case) {
+            writeln!(accepted, "{line}")?;
+        }
     }
     Ok(())
 }
