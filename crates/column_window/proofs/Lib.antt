@@ -1,0 +1,10 @@
+pub mod Rows
+pub mod Highest
+pub mod Patterns
+pub mod Extents
+pub mod Widest
+pub mod Stored
+pub mod Held
+pub mod Answers
+pub mod Scroll
+pub mod Calls

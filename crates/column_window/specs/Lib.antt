@@ -1,0 +1,5 @@
+pub mod Window
+pub mod Scroll
+pub mod Words
+pub mod State
+pub mod Called
