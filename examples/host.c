@@ -1,6 +1,6 @@
 /*
  * A program that draws, in small: it builds the worked label's job, has it laid out, and prints where each glyph and each underline goes.
- * Then it shows a job that is refused. `examples/run` builds and runs it.
+ * Then it asks how wide a column is in which this label and two others come by, and shows what is refused. `examples/run` builds and runs it.
  */
 #include <math.h>
 #include <stdio.h>
@@ -216,6 +216,35 @@ static void print_chunk(const uint8_t *chunk) {
     printf("the pen is then at (%g, %g)\n", float_at(chunk, LAYOUT_PEN_X_AT), float_at(chunk, LAYOUT_PEN_Y_AT));
 }
 
+/* ---- the width of a column */
+
+/* From the chunk's leftmost cluster to the end of its rightmost. */
+static float extent_of(const uint8_t *chunk) {
+    uint32_t clusters = number_at(chunk, LAYOUT_CLUSTER_COUNT_AT, 2);
+    float left = INFINITY, right = -INFINITY;
+    for (uint32_t i = 0; i < clusters; i++) {
+        const uint8_t *cluster = cluster_row(chunk, i);
+        float start = float_at(cluster, LAYOUT_SHIFT_X_AT);
+        left = fminf(left, start);
+        right = fmaxf(right, start + float_at(cluster, LAYOUT_ADVANCE_AT) - float_at(cluster, LAYOUT_SPACING_AT));
+    }
+    return clusters ? right - left : 0;
+}
+
+/* Two plots are in view. Labels come by: one of 36, the worked one, one of 20, and one that the host could not measure. */
+static void print_column(float extent) {
+    const float extents[] = {36, extent, 20, NAN};
+    uint32_t window[COLUMN_WINDOW_WORDS];
+    column_open(window, COLUMN_WINDOW_WORDS, 2);
+    for (size_t i = 0; i < sizeof extents / sizeof *extents; i++) {
+        struct column_width shown = column_add(window, COLUMN_WINDOW_WORDS, extents[i]);
+        if (shown.number == LAYOUT_DONE)
+            printf("a label of %g: the column is %g wide\n", extents[i], shown.width);
+        else
+            printf("a label that is refused with %u: the column stays\n", (unsigned)shown.number);
+    }
+}
+
 static void lay_out(const struct writer *job) {
     static uint8_t answer[65536];
     struct layout_result result = layout_text(job->bytes, job->length, answer, sizeof answer);
@@ -225,6 +254,7 @@ static void lay_out(const struct writer *job) {
     }
     printf("an answer of %u bytes\n", (unsigned)result.length);
     print_chunk(answer + LAYOUT_CHUNKS_AT);
+    print_column(extent_of(answer + LAYOUT_CHUNKS_AT));
 }
 
 int main(void) {

@@ -1,5 +1,5 @@
 /*
- * layout.h: places the shaped glyphs of a label.
+ * layout.h: places the shaped glyphs of a label; and, at the end, says how wide a column of labels is.
  *
  * One call reads a job (fonts, text, spans, shaped glyphs) and writes an answer (clusters with their places, decoration runs) into a
  * buffer that the caller lends. It allocates nothing and keeps nothing from one call to the next, so threads may call it at once.
@@ -48,7 +48,8 @@ enum layout_number {
     LAYOUT_MERGE_PAST_END = 7, /* a glyph of a later span takes the place of more glyphs than are left */
     LAYOUT_TOO_MANY_GLYPHS = 8, /* a chunk has more than 1,024 glyphs once its spans are merged */
     LAYOUT_NO_WIDTH = 9,       /* a span is to be stretched to a text length, and all its clusters have width 0 */
-    LAYOUT_NO_ROOM = 10        /* the answer is longer than the lent buffer */
+    LAYOUT_NO_ROOM = 10,       /* the answer is longer than the lent buffer */
+    LAYOUT_BAD_WINDOW = 19     /* a column's window only: see the end of this file */
 };
 
 /* ---- limits of a job */
@@ -176,6 +177,50 @@ enum layout_number {
  * had the Rust's own bits. With all steps in one chain one in eleven glyphs had others, off by at most 4 x 2^-24 of the sizes (origin,
  * shifts, glyph place) that its place is added up from. docs/DIFFERENCES.md has the figures.
  */
+
+/* ---- the width of a column
+ *
+ * Down a row of plots the code column is as wide as the widest of the labels now in view. Open a window for a span of as many labels as are
+ * in view, 1 to 64, and add the extent of each label as it comes by, up to 65,535 of them. After each the width is the largest extent among
+ * the last `span` labels, among all while there are fewer. Zero of either sign counts as plus zero, so that no width is minus zero.
+ *
+ * Who begins anywhere in the row with the same span sees the widths of who began at the top, at every label that both windows accept, from
+ * the label on with which the later window has accepted `span` of them. So to jump to a plot, open a window anew and add the `span` labels
+ * that end there.
+ *
+ * An extent is a length along the line; any finite float that is not below zero passes. examples/host.c takes it from an answer: from the
+ * smallest shift x of a chunk's clusters to the largest shift x + advance - length spacing.
+ *
+ * The window stands in the words that are lent and nowhere else: no memory is allocated, nothing has to be closed, and a copy of the words
+ * is a window of its own. Between two calls the words are not to be changed. A label costs three comparisons at most in the mean, whatever
+ * the span, and never looks at the others in view again.
+ */
+#define COLUMN_WINDOW_WORDS 68
+#define COLUMN_SPAN_MOST 64
+#define COLUMN_LABELS_MOST 65535
+
+struct column_width {
+    uint32_t number; /* LAYOUT_DONE, or why the call is refused */
+    float width;     /* 0 where it is refused */
+};
+
+/*
+ * An empty window. The pointer is not null; the words may hold anything. `words` counts those that are lent.
+ * Refused, in this order: LAYOUT_BAD_WINDOW, a span of 0 or above 64; LAYOUT_NO_ROOM, fewer than COLUMN_WINDOW_WORDS words.
+ * The width is 0, of an empty window too.
+ */
+struct column_width column_open(uint32_t *window, size_t words, uint32_t span);
+
+/*
+ * One label more, and the width after it.
+ * Refused, in this order: LAYOUT_BAD_FIELD, an extent that is not finite or is below zero; LAYOUT_BAD_COUNT, one label too many, when 65,535
+ * have been accepted; LAYOUT_NO_ROOM, fewer than COLUMN_WINDOW_WORDS words; LAYOUT_BAD_WINDOW, words that no call has left. A refused label
+ * leaves the window unchanged and does not count.
+ *
+ * Both calls: where they refuse, every word is as it was; the words past COLUMN_WINDOW_WORDS always are. Words that were changed between two
+ * calls, or never opened, do no harm, but the width then means nothing: it may be below zero, or no number.
+ */
+struct column_width column_add(uint32_t *window, size_t words, float extent);
 
 #ifdef __cplusplus
 }

@@ -1,4 +1,6 @@
 // The layout as a C program calls it: include/layout.h declares what stands here. A slice is a pointer and a length to C.
+pub mod column;
+
 use layout::Answered;
 ghost use mathlib.Core.Path.{_≡_};
 ghost use Prim.Native.Nat.{_<_};
