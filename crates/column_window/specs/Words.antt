@@ -1,5 +1,5 @@
 -- The words that a host lends, as the calls read and write them. Extents stand there as patterns. Definitions only.
-use Prim.Native.Nat.{ℕ, _+_, _≤_, _<_, max}
+use Prim.Native.Nat.{ℕ, _+_, _-_, _≤_, _<_, max}
 use mathlib.Core.Bool.{cond}
 use mathlib.Core.List.{List, [], _∷_, _++_}
 use lib.ListN.{length, take, drop, set, getD, replicate}
@@ -24,9 +24,9 @@ bestWord b = getD b 3 0
 abbrev pub blockWords : List ℕ → List ℕ
 blockWords b = drop 4 b
 
--- four words, and a block of 64
+-- four words, and a block for the longest span
 abbrev pub windowWords : ℕ
-windowWords = 68
+windowWords = 4 + spanMost
 
 -- ---- patterns
 
@@ -48,7 +48,7 @@ tails (x ∷ xs) = highest (x ∷ xs) ∷ tails xs
 
 -- an empty window
 unfoldable pub openedWords : List ℕ → ℕ → List ℕ
-openedWords b n = n ∷ (replicate 67 0 ++ drop windowWords b)
+openedWords b n = n ∷ (replicate (windowWords - 1) 0 ++ drop windowWords b)
 
 -- the block with the pattern x at the running place
 abbrev pub putBlock : List ℕ → ℕ → List ℕ
