@@ -185,8 +185,8 @@ enum layout_number {
  * the last `span` labels, among all while there are fewer. Zero of either sign counts as plus zero, so that no width is minus zero.
  *
  * Who begins anywhere in the row with the same span sees the widths of who began at the top, at every label that both windows accept, from
- * the label on with which the later window has accepted `span` of them. So to jump to a plot, open a window anew and add the `span` labels
- * that end there.
+ * the label on with which the later window has accepted `span` of them. So to jump to a plot, open a window anew and add the labels that
+ * end there, from so far up that `span` of them are accepted.
  *
  * An extent is a length along the line; any finite float that is not below zero passes. examples/host.c takes it from an answer: from the
  * smallest shift x of a chunk's clusters to the largest shift x + advance - length spacing.
