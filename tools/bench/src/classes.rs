@@ -48,6 +48,7 @@ pub fn classes() -> Vec<Class> {
     vec![
         rust("short", 0.3, label()),
         rust("two-line", 0.35, two_line()),
+        rust("three-spans", 0.35, three_spans()),
         rust("right-to-left", 0.1, right_to_left()),
         rust("text-length", 0.03, text_length()),
         rust("chunks", 0.35, sixteen_chunks()),
@@ -96,12 +97,18 @@ fn glyphs(text: &str, tag: &[u8; 4]) -> Vec<Glyph> {
     text.char_indices().map(glyph).collect()
 }
 
-/// Two chunks of 20 clusters; the first has two spans, the second of them bold and raised.
-fn two_line() -> Job {
+/// The worked label with a second font.
+fn two_fonts() -> Job {
     let mut job = label();
     let mut bold = job.fonts[0].clone();
     bold.units_per_em = 1000;
     job.fonts.push(bold);
+    job
+}
+
+/// Two chunks of 20 clusters; the first has two spans, the second of them bold and raised.
+fn two_line() -> Job {
+    let mut job = two_fonts();
     let mut first = one_span("Plot 17 entry B-204 x", b"Latn");
     first.text.truncate(20);
     let (mut plain, mut raised) = (first.spans[0].clone(), first.spans[0].clone());
@@ -118,6 +125,23 @@ fn two_line() -> Job {
     second.spans[0].glyphs.truncate(20);
     second.y = 70f32.to_bits();
     job.chunks = vec![first, second];
+    job
+}
+
+/// One chunk of 40 clusters in three spans, the second of them bold; each span's font has shaped the whole text.
+fn three_spans() -> Job {
+    let mut job = two_fonts();
+    let mut chunk = one_span("Plot 17 entry B-204 check Alba 2-row ear", b"Latn");
+    let whole = chunk.spans.remove(0);
+    chunk.spans = [(0, 14, 0), (14, 26, 1), (26, 40, 0)]
+        .map(|(start, end, font)| {
+            let mut span = whole.clone();
+            (span.start, span.end, span.font) = (start, end, font);
+            span.glyphs.iter_mut().for_each(|glyph| glyph.font = font);
+            span
+        })
+        .to_vec();
+    job.chunks = vec![chunk];
     job
 }
 

@@ -55,7 +55,7 @@ fn write_jobs(dir: &Path) -> Done {
 fn calls(name: &str, side: Side, count: usize) -> Done {
     let classes = classes::classes();
     let job = classes::job_of(&classes, name)?;
-    let mut answer = side::buffer();
+    let mut answer = side::buffer(job);
     for _ in 0..count {
         side::call(side, job, &mut answer);
     }

@@ -29,9 +29,9 @@ impl Side {
     }
 }
 
-/// What is lent; nobody clears it between calls.
-pub fn buffer() -> Vec<u8> {
-    vec![0; 1 << 18]
+/// What is lent: three times the job's bytes, as README says; nobody clears it between calls.
+pub fn buffer(job: &[u8]) -> Vec<u8> {
+    vec![0; 3 * job.len()]
 }
 
 /// The function whose time and instructions are taken, under a name that a profiler finds.
@@ -58,7 +58,7 @@ pub fn agree() -> Result<(), Box<dyn Error>> {
     jobs.extend([64, 1_024].map(|clusters| (of_clusters(clusters), Side::Rust)));
     jobs.extend(Order::ALL.map(|order| (encode(&of_spans(32, order)), Side::Rust)));
     for (job, beside) in jobs {
-        let (mut one, mut other) = (buffer(), buffer());
+        let (mut one, mut other) = (buffer(&job), buffer(&job));
         let returned = call(Side::Library, &job, &mut one);
         let right = match beside {
             Side::Rust => call(Side::Rust, &job, &mut other),

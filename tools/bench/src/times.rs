@@ -94,13 +94,16 @@ fn verdict(held: bool) -> &'static str {
 }
 
 fn measure(job: &[u8], beside: Side, other: &[u8]) -> Times {
-    let mut answer = buffer();
     let sides = [(Side::Library, job), (beside, other)];
-    let calls = sides.map(|(side, job)| calls_in_a_round(side, job, &mut answer));
+    let mut lent = sides.map(|(_, job)| buffer(job));
+    let mut calls = [0; 2];
+    for (i, &(side, job)) in sides.iter().enumerate() {
+        calls[i] = calls_in_a_round(side, job, &mut lent[i]);
+    }
     let mut best = [f64::INFINITY; 2];
     for _ in 0..ROUNDS {
         for (i, &(side, job)) in sides.iter().enumerate() {
-            best[i] = best[i].min(round(side, job, &mut answer, calls[i]));
+            best[i] = best[i].min(round(side, job, &mut lent[i], calls[i]));
         }
     }
     Times {
