@@ -12,6 +12,7 @@ use crate::text::Text;
 /// Bytes around the lent buffer that no call may touch.
 const GUARD: usize = 64;
 const MOST_LENT: usize = 1 << 18;
+const NO_ROOM: u32 = 10;
 
 /// Memory with a pattern in it, from which buffers are lent; it is whole again after each call.
 pub struct Lender {
@@ -43,6 +44,8 @@ impl Lender {
         } else if returned.length as usize != answer.len() {
             let length = returned.length;
             Some(format!("length {length}, right is {}", answer.len()))
+        } else if returned.number == NO_ROOM && 3 * job.len() <= case.lent {
+            Some("10 in a buffer of three times the job".to_string())
         } else {
             self.difference_in_memory(answer, case.lent)
         };
@@ -92,7 +95,29 @@ fn first_difference(one: &[u8], other: &[u8]) -> Option<usize> {
 pub struct Tally {
     jobs: usize,
     met: [usize; 11],
+    longest: Longest,
     differences: usize,
+}
+
+/// The longest answer as a share of its job, in bytes.
+#[derive(Default)]
+struct Longest {
+    answer: usize,
+    job: usize,
+}
+
+impl Longest {
+    fn add(&mut self, answer: usize, job: usize) {
+        if self.answer * job < answer * self.job.max(1) {
+            *self = Longest { answer, job };
+        }
+    }
+
+    fn print(&self) {
+        let share = self.answer as f64 / self.job.max(1) as f64;
+        let Longest { answer, job } = self;
+        println!("longest answer {share:.3} of its job: {answer} bytes to {job}");
+    }
 }
 
 /// Differences printed in full; the rest are counted.
@@ -111,8 +136,10 @@ impl Tally {
             }
             self.differences += 1;
         }
+        let (number, answer) = parts(&case.outcome);
         self.jobs += 1;
-        self.met[parts(&case.outcome).0 as usize] += 1;
+        self.met[number as usize] += 1;
+        self.longest.add(answer.len(), case.job.len());
     }
 
     pub fn print(&self) {
@@ -124,6 +151,7 @@ impl Tally {
 
     fn print_compared(&self) {
         self.print();
+        self.longest.print();
         println!("differences {}", self.differences);
     }
 }
