@@ -1,18 +1,19 @@
 -- What an accepted job gives the argument: fonts, spans and clusters with their numbers in range. Assumes nothing.
 use Prim.Native.Nat.{ℕ, zero, suc, _+_, _^_, _≤_, _<_}
-use mathlib.Core.Path.{_≡_, refl, sym, ap, _∙_, subst}
+use mathlib.Core.Path.{_≡_, refl, sym, subst}
 use mathlib.Core.Bool.{Bool, true, false, cond}
 use mathlib.Core.List.{List, [], _∷_}
 use native.Mathlib.Nat.{le-refl, le-trans, le-of-suc-le-suc}
 use native.Mathlib.Omega.{arith}
 use lib.ListN.{length}
-use lib.Dec.{T, ltb, eqb, ltb→lt, leb→le}
+use lib.Dec.{T, ltb, ltb→lt, leb→le}
 use lib.Ieee.{Float}
 use Rattle.rounding.proofs.Inputs.{Input, input-of, font-size-of}
 use Rattle.laws.proofs.All.{All, all-of, all-every, all-map, all-weaken, all-read, all-drop, both, first, rest}
 use Rattle.laws.proofs.Accepted.{accepted, InRange, RangedSpan, RangedChunk}
 use Rattle.laws.proofs.Counted.{IsByte, be-below}
 use Rattle.laws.proofs.GroupsKeep.{groups-keep}
+use Rattle.laws.proofs.GlyphsShared.{groupGlyphs, groups-share}
 use Rattle.laws.proofs.GlyphsAccepted.{AcceptedGlyph}
 use Rattle.labels.specs.declared.Font.{Font}
 use Rattle.labels.specs.declared.Glyph.{Glyph}
@@ -21,7 +22,7 @@ use Rattle.labels.specs.Outcome.{given}
 use Rattle.labels.specs.Job.{Job, Chunk, SpanParts, spansOf, spanAt}
 use Rattle.labels.specs.Decode.{jobOf, fontOf}
 use Rattle.labels.specs.Check.{checked, afterVersion, floatOk, sizeOk, fontOk, glyphOk, valuesOk}
-use Rattle.labels.specs.Group.{Group, chunkSpanAt, joinRun, glyphRuns, coveredRuns, groups}
+use Rattle.labels.specs.Group.{Group, chunkSpanAt, glyphRuns, coveredRuns, groups}
 use Rattle.exact.proofs.Formed.{FontIn, GlyphIn}
 use Rattle.exact.proofs.Spaced.{SpanIn, GroupIn}
 
@@ -80,37 +81,13 @@ glyph-in job c g a =
 
 -- ---- groups
 
-abbrev runsLength : List (List Glyph) → ℕ
-runsLength [] = 0
-runsLength (r ∷ rs) = length r + runsLength rs
-
-join-length : (g : Glyph) (runs : List (List Glyph)) → runsLength (joinRun g runs) ≡ suc (runsLength runs)
-unfolding joinRun
-join-length g [] = refl
-join-length g ([] ∷ runs) = omega arith
-join-length g ((h ∷ hs) ∷ runs) = go (eqb (g .index) (h .index))
-  where
-    go : (b : Bool) → runsLength (cond b ((g ∷ h ∷ hs) ∷ runs) ((g ∷ []) ∷ (h ∷ hs) ∷ runs)) ≡ suc (suc (length hs) + runsLength runs)
-    go true = omega arith
-    go false = omega arith
-
-runs-length : (gs : List Glyph) → runsLength (glyphRuns gs) ≡ length gs
-unfolding glyphRuns
-runs-length [] = refl
-runs-length (g ∷ gs) = join-length g (glyphRuns gs) ∙ ap suc (runs-length gs)
-
--- the glyphs of some groups
-abbrev pub glyphCount : List Group → ℕ
-glyphCount [] = 0
-glyphCount (g ∷ gs) = length (g .glyphs) + glyphCount gs
-
 abbrev Covered : List Span → Group → Type 0
 Covered spans g = (0 < length (g .glyphs)) × (g .span < length spans)
 
-covered : (spans : List Span) (from : ℕ) (runs : List (List Glyph)) → All (Covered spans) (coveredRuns spans from runs) × (glyphCount (coveredRuns spans from runs) ≤ runsLength runs)
+covered : (spans : List Span) (from : ℕ) (runs : List (List Glyph)) → All (Covered spans) (coveredRuns spans from runs)
 unfolding coveredRuns
-covered spans from [] = (All.none, omega arith)
-covered spans from ([] ∷ runs) = let r = covered spans from runs in (r .0, omega arith)
+covered spans from [] = All.none
+covered spans from ([] ∷ runs) = covered spans from runs
 covered spans from ((g ∷ gs) ∷ runs) = go (ltb k (length spans)) refl (covered spans (from + length (g ∷ gs)) runs)
   where
     k : ℕ
@@ -122,26 +99,25 @@ covered spans from ((g ∷ gs) ∷ runs) = go (ltb k (length spans)) refl (cover
     here : Group
     here = record { from = from; first = g; glyphs = g ∷ gs; span = k }
 
-    go : (b : Bool) → ltb k (length spans) ≡ b → All (Covered spans) others × (glyphCount others ≤ runsLength runs)
-        → All (Covered spans) (cond b (here ∷ others) others) × (glyphCount (cond b (here ∷ others) others) ≤ suc (length gs) + runsLength runs)
-    go true e r = (All.more {x = here} (omega arith, ltb→lt k (length spans) (subst T (sym e) tt)) (r .0), omega arith)
-    go false e r = (r .0, omega arith)
+    go : (b : Bool) → ltb k (length spans) ≡ b → All (Covered spans) others → All (Covered spans) (cond b (here ∷ others) others)
+    go true e r = All.more {x = here} (omega arith, ltb→lt k (length spans) (subst T (sym e) tt)) r
+    go false e r = r
 
-part : (gs : List Group) → All (λ g. length (g .glyphs) ≤ glyphCount gs) gs
+part : (gs : List Group) → All (λ g. length (g .glyphs) ≤ groupGlyphs gs) gs
 part [] = All.none
 part (g ∷ gs) =
-    let whole : length (g .glyphs) ≤ glyphCount (g ∷ gs) = omega arith in
-    let later : glyphCount gs ≤ glyphCount (g ∷ gs) = omega arith in
+    let whole : length (g .glyphs) ≤ groupGlyphs (g ∷ gs) = omega arith in
+    let later : groupGlyphs gs ≤ groupGlyphs (g ∷ gs) = omega arith in
     All.more whole (all-weaken (λ h i. le-trans i later) (part gs))
 
 -- the groups of a merged list, the glyphs in them, and each group's
 pub record GroupsIn (fonts : List Font) (spans : List Span) (n : ℕ) (gs : List Group) : Type 0 where
   pub groups : All (GroupIn fonts spans) gs
-  pub few : glyphCount gs ≤ n
-  pub each : All (λ g. length (g .glyphs) ≤ glyphCount gs) gs
-  pub count : length gs ≤ glyphCount gs
+  pub few : groupGlyphs gs ≤ n
+  pub each : All (λ g. length (g .glyphs) ≤ groupGlyphs gs) gs
+  pub count : length gs ≤ groupGlyphs gs
 
-at-least : (spans : List Span) {gs : List Group} → All (Covered spans) gs → length gs ≤ glyphCount gs
+at-least : (spans : List Span) {gs : List Group} → All (Covered spans) gs → length gs ≤ groupGlyphs gs
 at-least spans All.none = omega arith
 at-least spans (All.more c cs) = omega (arith, at-least spans cs, c .0)
 
@@ -155,13 +131,13 @@ unfolding groups
 groups-in {fonts} {spans} {gs} is few ss =
     let c = covered spans 0 (glyphRuns gs) in
     let kept = groups-keep (GlyphIn fonts) spans (length gs) (record { each = is; few = le-refl (length gs) }) in
-    let small : glyphCount (groups spans gs) ≤ 1024 = omega (arith, c .1, runs-length gs) in
+    let small : groupGlyphs (groups spans gs) ≤ 1024 = omega (arith, groups-share spans gs .glyphs) in
     let sizes = part (groups spans gs) in
     record {
       groups =
           both (λ g p q. record { glyphs = p .glyphs; some = q .0 .0; few = le-trans (q .1) small; span = span-at ss (g .span) (q .0 .1) }) (kept .each)
-          (both {R = λ g. Covered spans g × (length (g .glyphs) ≤ glyphCount (groups spans gs))} (λ g p q. (p, q)) (c .0) sizes);
+          (both {R = λ g. Covered spans g × (length (g .glyphs) ≤ groupGlyphs (groups spans gs))} (λ g p q. (p, q)) c sizes);
       few = small;
       each = sizes;
-      count = at-least spans (c .0);
+      count = at-least spans c;
     }

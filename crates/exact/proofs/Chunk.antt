@@ -43,7 +43,8 @@ use Rattle.exact.proofs.Summed.{Summed, adjusted-summed, plain-floats, 
 use Rattle.exact.proofs.Shifts.{Shifted, shiftMass, shifted, shifted-indexes}
 use Rattle.exact.proofs.Positions.{Offset, offsetError, reachMass, marked-shifted, offsets}
 use Rattle.exact.proofs.Numbers.{Sizes, Numbers, length-numbers, plain-numbers, H-small, shifts-fit, fits, room}
-use Rattle.exact.proofs.Accepted.{GroupsIn, glyphCount}
+use Rattle.laws.proofs.GlyphsShared.{groupGlyphs}
+use Rattle.exact.proofs.Accepted.{GroupsIn}
 use Rattle.exact.proofs.Total.{groupsMass, indexesOf, groupsOf, total-load}
 use Rattle.exact.proofs.Groups.{spaced-groups, formed-groups, glyph-total, all-groups}
 
@@ -111,7 +112,7 @@ module _ (job : Job) (c : Chunk) (offset : ℕ) (gs : List Glyph) (fonts : All F
   frame = frame-of spans is fonts
 
   abbrev g : ℕ
-  g = glyphCount G
+  g = groupGlyphs G
 
   abbrev H : ℕ
   H = groupsMass (job .fonts) spans K D G + lengthsMass D spans
@@ -133,8 +134,8 @@ module _ (job : Job) (c : Chunk) (offset : ℕ) (gs : List Glyph) (fonts : All F
 
   total : Load D (sizeTotal job offset c formed) (H + X) (g + 4 * length G + length spans)
   total =
-      subst (λ (l : List Group). Load D (sizeTotal job offset c formed) (massOf l) (glyphCount l + 4 * length l + length spans)) formed-of
-      (subst (λ (n : ℕ). Load D (sizeTotal job offset c formed) (massOf (groupsOf formed)) (glyphCount (groupsOf formed) + 4 * n + length spans)) (sym (length-map formed (λ (q : ExactCluster). q .group)))
+      subst (λ (l : List Group). Load D (sizeTotal job offset c formed) (massOf l) (groupGlyphs l + 4 * length l + length spans)) formed-of
+      (subst (λ (n : ℕ). Load D (sizeTotal job offset c formed) (massOf (groupsOf formed)) (groupGlyphs (groupsOf formed) + 4 * n + length spans)) (sym (length-map formed (λ (q : ExactCluster). q .group)))
       (total-load job c offset frame dxs dys formed (subst (All (GroupIn (job .fonts) spans)) (sym formed-of) (gi .groups)) ss))
 
   sizes : Sizes S (unit * D) g (length G) (length spans) H X
@@ -254,7 +255,7 @@ module _ (job : Job) (c : Chunk) (offset : ℕ) (gs : List Glyph) (fonts : All F
 
     allowed-of : allowed job offset c formed ≡ bound (sharpness c)
     unfolding allowed
-    allowed-of = ap (λ (n : ℕ). pos (n + 3) ·ᵠ sizeTotal job offset c formed /ᵠ (2 ^ sharpness c)) (glyph-total formed ∙ ap glyphCount formed-of)
+    allowed-of = ap (λ (n : ℕ). pos (n + 3) ·ᵠ sizeTotal job offset c formed /ᵠ (2 ^ sharpness c)) (glyph-total formed ∙ ap groupGlyphs formed-of)
 
     pub chunk-placed : AllPairs (Placed (allowed job offset c formed)) (resolveClustersPositionsHorizontal job offset c ds .clusters) (layoutExactly job offset c formed)
     unfolding resolveClustersPositionsHorizontal layoutExactly

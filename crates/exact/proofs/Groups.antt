@@ -19,7 +19,7 @@ use Rattle.labels.specs.Group.{Group}
 use Rattle.labels.specs.Script.{scriptSupportsLetterSpacing, isWordSeparatorAt}
 use Rattle.labels.specs.Spacing.{settled, letterSpaced, nextLetterSpaced, applyLetterSpacing, wordSpaced, applyWordSpacing}
 use Rattle.labels.specs.Exact.{ExactCluster, exact, exactCluster, glyphTotal}
-use Rattle.exact.proofs.Accepted.{glyphCount}
+use Rattle.laws.proofs.GlyphsShared.{groupGlyphs}
 use Rattle.exact.proofs.Total.{groupsOf}
 
 zip-groups : (fonts : List Font) (spans : List Span) (gs : List Group) (cs : List Cluster) → length cs ≡ length gs → groupsOf (zipWith (exactCluster fonts spans) gs cs) ≡ gs
@@ -85,11 +85,11 @@ pub formed-groups : (fonts : List Font) (spans : List Span) (gs : List Group) (c
 formed-groups = zip-groups
 
 -- g
-total-from : (qs : List ExactCluster) (n : ℕ) → foldl (λ (n : ℕ) (c : ExactCluster). n + length (c .group .glyphs)) n qs ≡ n + glyphCount (groupsOf qs)
+total-from : (qs : List ExactCluster) (n : ℕ) → foldl (λ (n : ℕ) (c : ExactCluster). n + length (c .group .glyphs)) n qs ≡ n + groupGlyphs (groupsOf qs)
 total-from [] n = omega arith
 total-from (q ∷ qs) n = omega (arith, total-from qs (n + length (q .group .glyphs)))
 
-pub glyph-total : (qs : List ExactCluster) → glyphTotal qs ≡ glyphCount (groupsOf qs)
+pub glyph-total : (qs : List ExactCluster) → glyphTotal qs ≡ groupGlyphs (groupsOf qs)
 unfolding glyphTotal
 glyph-total qs = total-from qs 0 ∙ omega arith
 

@@ -21,7 +21,7 @@ use Rattle.exact.proofs.Formed.{Frame}
 use Rattle.exact.proofs.Spaced.{SpanIn, GroupIn, wordPart, body}
 use Rattle.exact.proofs.Shifts.{floatAt, shiftMass}
 use Rattle.exact.proofs.Lengths.{lengthsMass}
-use Rattle.exact.proofs.Accepted.{glyphCount}
+use Rattle.laws.proofs.GlyphsShared.{groupGlyphs}
 
 -- the clusters with their spacing
 abbrev pub groupsMass : List Font → List Span → ℕ → ℕ → List Group → ℕ
@@ -53,7 +53,7 @@ module _ {K D S : ℕ} (job : Job) (c : Chunk) (offset : ℕ) (frame : Frame (jo
   clusters-load : {r : Frac} {m k : ℕ} (qs : List ExactCluster) → All (GroupIn (job .fonts) spans) (groupsOf qs) → Load D r m k
       → Load D (foldl (λ (t : Frac) (q : ExactCluster). t +ᵠ clusterSizes job offset c (q .group)) r qs)
       (m + (groupsMass (job .fonts) spans K D (groupsOf qs) + (shiftMass D (job .dx) (c .text) offset (indexesOf (groupsOf qs)) + shiftMass D (job .dy) (c .text) offset (indexesOf (groupsOf qs)))))
-      (k + (glyphCount (groupsOf qs) + 4 * length qs))
+      (k + (groupGlyphs (groupsOf qs) + 4 * length qs))
   clusters-load [] All.none l = load-as (omega arith) (omega arith) l
   clusters-load (q ∷ qs) (All.more i is) l = load-as (omega arith) (omega arith) (clusters-load qs is (load-add l (cluster-load (q .group) i)))
 
@@ -65,6 +65,6 @@ module _ {K D S : ℕ} (job : Job) (c : Chunk) (offset : ℕ) (frame : Frame (jo
   pub total-load : (qs : List ExactCluster) → All (GroupIn (job .fonts) spans) (groupsOf qs) → All SpanIn spans
       → Load D (sizeTotal job offset c qs)
       (groupsMass (job .fonts) spans K D (groupsOf qs) + lengthsMass D spans + (shiftMass D (job .dx) (c .text) offset (indexesOf (groupsOf qs)) + shiftMass D (job .dy) (c .text) offset (indexesOf (groupsOf qs))))
-      (glyphCount (groupsOf qs) + 4 * length qs + length spans)
+      (groupGlyphs (groupsOf qs) + 4 * length qs + length spans)
   unfolding sizeTotal
   total-load qs is ss = load-as (omega arith) (omega arith) (spans-load ss (clusters-load qs is (load-zero D)))

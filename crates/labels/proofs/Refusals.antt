@@ -1,9 +1,9 @@
 -- Refusals, as one table that is computed from the job's bytes: each number met by the smallest change of document 01's label, its float
 -- edges, and jobs with two causes, of which the earlier check is told. Assumes nothing.
-use Prim.Native.Nat.{ℕ}
+use Prim.Native.Nat.{ℕ, _*_}
 use mathlib.Core.Path.{_≡_, refl}
-use mathlib.Core.List.{List, [], _∷_, _++_, map, foldl}
-use lib.ListN.{take, set, replicate}
+use mathlib.Core.List.{List, [], _∷_, _++_, map, flatMap, foldl}
+use lib.ListN.{length, take, set, replicate}
 use Rattle.labels.specs.Bytes.{bytes}
 use Rattle.labels.specs.Script.Tag.{tag}
 use Rattle.labels.specs.Layout.{layoutOf, numberOf}
@@ -58,6 +58,12 @@ squeezed script =
     (spanRow 0 2 0xc1300000 0 1 0x42200000 1 [] (glyphRow 1 0 1 0 0 1280 script 0 ∷ glyphRow 2 1 1 0 0 1280 script 0 ∷ letterRow 3 2 1 ∷ [])
     ∷ plainSpan 2 3 (letterRow 3 2 1 ∷ [])
     ∷ [])
+
+-- ten letters at the two bytes of "AB" in turn, all rotated: each is a cluster and begins a run, so that 335 bytes are answered by 688
+turned : List ℕ
+turned =
+    plainJob [] (0x41200000 ∷ 0x41a00000 ∷ [])
+    (chunkRow 0 (65 ∷ 66 ∷ []) (plainSpan 0 2 (flatMap (λ (i : ℕ). letterRow 1 0 1 ∷ letterRow 2 1 1 ∷ []) (replicate 5 0)) ∷ []) ∷ [])
 
 -- ---- the table: a job, the bytes lent, and the number that it meets (0: accepted)
 
@@ -224,9 +230,10 @@ spans-told : numbers spans ≡ told spans
 unfolding computed built numbers told spans
 spans-told = refl
 
--- 7, 8 and 9, which only SpacingAndGlyphs meets, and a script without letter spacing does not where others collapse; 10 one byte short of the answer, and for a buffer of nothing
+-- 7, 8 and 9, which only SpacingAndGlyphs meets, and a script without letter spacing does not where others collapse; 10 one byte short of the answer, and for a buffer of nothing; 10 also
+-- for one of twice the job's bytes, where three times hold every answer
 later : List Case
-unfolding plain label changed jobOf past-the-end full-list no-width squeezed
+unfolding plain label changed jobOf past-the-end full-list no-width squeezed turned
 later =
     plain (jobOf (past-the-end ∷ [])) 7
     ∷ plain (jobOf (full-list ∷ [])) 8
@@ -238,6 +245,9 @@ later =
     ∷ record { job = label; lent = 228; number = 0 }
     ∷ record { job = label; lent = 227; number = 10 }
     ∷ record { job = label; lent = 0; number = 10 }
+    ∷ record { job = turned; lent = 688; number = 0 }
+    ∷ record { job = turned; lent = 687; number = 10 }
+    ∷ record { job = turned; lent = 2 * length turned; number = 10 }
     ∷ []
 
 later-told : numbers later ≡ told later

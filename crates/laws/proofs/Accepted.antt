@@ -43,7 +43,7 @@ passed (c ∷ cs) bs e = go (c .passes bs) refl (passed cs bs)
         absurd (omega arith)
 
 -- a step that gives a value was reached
-reached : {A B : Type 0} (o : Outcome A) (f : A → Outcome B) (b : B) → andThen o f ≡ given b → (a : A) × (o ≡ given a) × (f a ≡ given b)
+pub reached : {A B : Type 0} (o : Outcome A) (f : A → Outcome B) (b : B) → andThen o f ≡ given b → (a : A) × (o ≡ given a) × (f a ≡ given b)
 unfolding andThen
 reached (refused n) f b e = let z : _≡_ {A = ℕ} 0 1 = cc in absurd (omega arith)
 reached (given a) f b e = (a, refl, e)

@@ -17,3 +17,11 @@ pub mod SpanRowsFit
 pub mod GlyphsAccepted
 pub mod GroupsKeep
 pub mod RowsFit
+pub mod Sums
+pub mod GlyphsShared
+pub mod MergedLength
+pub mod RunsShared
+pub mod RowSize
+pub mod AnswerBound
+pub mod NeverTooShort
+pub mod Characters
