@@ -2,8 +2,8 @@ pub mod Puts
 pub mod Units
 pub mod GlyphsLeft
 pub mod Most
+pub mod RowMost
 pub mod ClusterRows
 pub mod RunRows
 pub mod SpanRows
 pub mod ChunkRows
-pub mod ChunkMost

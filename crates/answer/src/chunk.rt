@@ -19,19 +19,15 @@ use wire::write::put_f32;
 use wire::write::put_number;
 ghost use mathlib.Core.Path.{_≡_};
 ghost use mathlib.Core.Bool.{true};
-ghost use mathlib.Core.List.{List};
-ghost use Prim.Native.Nat.{_+_, _*_, _≤_};
+ghost use Prim.Native.Nat.{_+_, _≤_};
 ghost use lib.ListN.{length};
-ghost use Rattle.labels.specs.declared.Glyph.{Glyph};
-ghost use Rattle.labels.specs.declared.Point.{Point};
-ghost use Rattle.labels.specs.Job.{Job};
-ghost use Rattle.labels.specs.Answer.{clusterRowSize, spanRowSize, chunkHeadSize, chunkRowBytes, chunkRowLength};
+ghost use Rattle.labels.specs.Answer.{chunkHeadSize, chunkRowBytes, chunkRowLength};
 ghost use Rattle.lookup.specs.Rows.{fontsIn, glyphsIn, partsIn};
 ghost use Rattle.clusters.specs.Clusters.{clustersOf};
 ghost use Rattle.wire.specs.Splice.{splice};
 ghost use Rattle.answer.specs.Glyphs.{unitsIn};
 ghost use Rattle.answer.specs.Spans.{jobWith};
-ghost use Rattle.answer.specs.Chunks.{chunkRow, chunkHeadBytes};
+ghost use Rattle.answer.specs.Chunks.{chunkRow, RowLength, chunkRowMost, chunkHeadBytes};
 
 // With so many cluster rows and span rows, and the pen as it is after the chunk.
 fn put_chunk_head(out: &mut [u8], at: usize, clusters: usize, spans: usize, pen: Point)
@@ -57,23 +53,20 @@ pub fn chunk_row_length(
 ) -> usize
     requires { ⌜ (n ≤ 65_535) × (n ≤ length (now floats)) × (n ≤ length (now words)) × (n ≤ length (now firsts)) × (n ≤ length (now widths))
         × (length (now spans) ≤ 255) × (count ≤ 65_536) ⌝ }
-    ensures { λ r. ⌜ (r ≤ chunkHeadSize + n * clusterRowSize count + length (now (spans .entry)) * spanRowSize n)
-        × ((job : Job) (origin pen : Point) (gs : List Glyph) → length gs ≡ count → r ≡ chunkRowLength
-        (chunkRow job origin pen gs (clustersOf (now (floats .entry)) (now (words .entry)) n) (partsIn (now (s .entry)) (now (spans .entry))))) ⌝ }
+    ensures { λ r. ⌜ RowLength r count (clustersOf (now (floats .entry)) (now (words .entry)) n) (partsIn (now (s .entry)) (now (spans .entry))) ⌝ }
 {
     let clusters = cluster_rows_length(count, floats, words, n);
     CHUNK_HEAD_BYTES + clusters + span_rows_length(s, spans, floats, words, n, firsts, widths)
 }
 
-// No row of so many spans and clusters is longer: as if each cluster had all of the `count` merged glyphs, and each span a run for each
-// cluster.
+// No row is longer: its `n` clusters share the `count` merged glyphs, and no two of its `spans` spans cover one byte, so that all spans together
+// have no more runs than there are clusters.
 pub fn chunk_row_most(spans: usize, count: usize, n: usize) -> usize
     requires { ⌜ (n ≤ 65_535) × (spans ≤ 255) × (count ≤ 65_536) ⌝ }
-    ensures { λ r. ⌜ r ≡ chunkHeadSize + n * clusterRowSize count + spans * spanRowSize n ⌝ }
+    ensures { λ r. ⌜ r ≡ chunkRowMost spans count n ⌝ }
 {
-    let cluster_row = CLUSTER_ROW_BYTES + GLYPH_ROW_BYTES * count;
-    let span_row = RUNS_AT + RUN_BYTES * n;
-    CHUNK_HEAD_BYTES + n * cluster_row + spans * span_row
+    let clusters = (CLUSTER_ROW_BYTES + RUN_BYTES) * n;
+    CHUNK_HEAD_BYTES + clusters + GLYPH_ROW_BYTES * count + RUNS_AT * spans
 }
 
 // The row is put, and the place behind it is given.

@@ -50,8 +50,8 @@ module _ (j : definitions.Job) (c : definitions.Chunk) (gs : List Glyph) (room :
   pub going : {new : List ℕ} {after : Reached} (cs : List Cluster) → adjustedClusters j c gs ≡ given cs → Behind room before after old new (placeChunk j (progressOf before) c gs cs)
       → LaidBehind room before (Going after) old new (laidMerged j (progressOf before) c gs)
   unfolding laidMerged andThen laidFrom putFrom
-  going cs e b = record { laid = rw e (ap Going (b .reached)); small = b .small; buffer = rw e (b .buffer) }
+  going cs e b = record { laid = rw e (ap Going (b .reached)); buffer = rw e (b .buffer) }
 
   pub refusing : (k : ℕ) → adjustedClusters j c gs ≡ refused k → LaidBehind room before (Refused k) old old (laidMerged j (progressOf before) c gs)
   unfolding laidMerged andThen laidFrom putFrom
-  refusing k e = record { laid = rw e refl; small = tt; buffer = rw e refl }
+  refusing k e = record { laid = rw e refl; buffer = rw e refl }

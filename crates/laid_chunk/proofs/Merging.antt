@@ -9,7 +9,7 @@ use Rattle.laws.proofs.Counted.{CountedParts, chunk-counted}
 use Rattle.laws.proofs.Records.{length-rows}
 use Rattle.labels.specs.Outcome.{given, andThen}
 use Rattle.labels.specs.declared.Job.{Job}
-use Rattle.labels.specs.Job.{SpanParts, limits}
+use Rattle.labels.specs.Job.{SpanParts}
 use Rattle.labels.specs.Decode.{glyphBytes, glyphOf, glyphCount, partsOf}
 use Rattle.labels.specs.Merge.{mergeGlyphs}
 use Rattle.labels.specs.Layout.{layoutChunk}
@@ -59,4 +59,4 @@ module _ {s : List ℕ} {at : ℕ} {spans : List ℕ} (p : SpanPlaces s at spans
     pub refused-behind : (rows : List ℕ) {r : Merge} {n : ℕ} → r ≡ M.Refused n → mergedOf r s rows ≡ mergeGlyphs (partsIn s spans) → new ≡ old
         → LaidBehind room before (Refused n) old new (layoutChunk (jobIn s) (given (progressOf before)) (chunkIn s at))
     unfolding mergedOf layoutChunk andThen laidFrom putFrom
-    refused-behind rows is e kept = rw (ap mergeGlyphs (sym (p .parts)) ∙ sym (rw is at e)) (record { laid = refl; small = tt; buffer = kept })
+    refused-behind rows is e kept = rw (ap mergeGlyphs (sym (p .parts)) ∙ sym (rw is at e)) (record { laid = refl; buffer = kept })

@@ -1,9 +1,10 @@
 -- The row that a chunk is written as: it is the record's, it is short, and it is put if there is room. Assumes nothing.
-use Prim.Native.Nat.{ℕ, _+_, _-_, _*_, _≤_, _<_}
-use mathlib.Core.Path.{_≡_, sym, ap, ap₂, _∙_}
+use Prim.Native.Nat.{ℕ, _+_, _-_, _≤_, _<_}
+use mathlib.Core.Path.{_≡_, refl, sym, ap, ap₂, _∙_}
 use mathlib.Core.List.{List, map}
+use native.Mathlib.Nat.{le-refl}
 use native.Mathlib.Omega.{arith}
-use lib.ListN.{length, length-map}
+use lib.ListN.{length, drop, length-map}
 use borrow.Author.Tests.{le-leb, lt-leb}
 use Rattle.labels.specs.declared.Job.{Job}
 use Rattle.labels.specs.declared.Font.{Font}
@@ -11,20 +12,25 @@ use Rattle.labels.specs.declared.Glyph.{Glyph}
 use Rattle.labels.specs.declared.Cluster.{Cluster}
 use Rattle.labels.specs.declared.Point.{Point}
 use Rattle.labels.specs.Job as definitions
-use Rattle.labels.specs.Answer.{ChunkRow, SpanRow, chunkHeadSize, clusterRowSize, spanRowSize, chunkRowBytes, chunkRowLength}
-use Rattle.labels.specs.Layout.{clusterRow}
+use Rattle.labels.specs.Answer.{ChunkRow, SpanRow, chunkRowBytes, chunkRowLength}
+use Rattle.labels.specs.Outcome.{given}
+use Rattle.labels.specs.Decode.{partsOf}
+use Rattle.labels.specs.Layout.{clusterRow, adjustedClusters}
+use Rattle.laws.proofs.IfGiven.{of-given}
+use Rattle.laws.proofs.GlyphsShared.{Shared, adjusted-share}
+use Rattle.laws.proofs.RowSize.{placed-sized}
 use Rattle.laws.proofs.AnswerLength.{length-chunkRow}
 use Rattle.lookup.specs.Rows.{fontsIn, glyphsIn, partsIn}
 use Rattle.wire.specs.Splice.{splice}
 use Rattle.forming.proofs.Glyphs.{glyphs-length}
 use Rattle.job.specs.Answer.{placesOf}
 use Rattle.answer.specs.Spans.{jobWith}
-use Rattle.answer.specs.Chunks.{chunkRow}
-use Rattle.answer.proofs.ChunkMost.{chunk-most}
-use Rattle.answer.proofs.Most.{clusters-most, spans-most}
+use Rattle.answer.specs.Chunks.{chunkRow, RowLength, chunkRowMost}
+use Rattle.answer.proofs.RowMost.{placed-most}
 use Rattle.answer.proofs.SpanRows.{rows-of-job}
-use Rattle.laid_chunk.specs.Checked.{Writable}
-use Rattle.laid_chunk.specs.Steps.{jobIn, chunkRowIn, putWithin}
+use Rattle.laid_chunk.specs.Checked.{CheckedChunk, SpanPlaces, MergedRows, Writable}
+use Rattle.laid_chunk.specs.declared.progress.Reached.{Reached}
+use Rattle.laid_chunk.specs.Steps.{jobIn, chunkIn, progressOf, laidBytes, placedIn, chunkRowIn, putWithin}
 use Rattle.laid_chunk.proofs.Places.{mode-is, fonts-is}
 
 -- the job's places give the writing mode and the fonts of the definitions' job
@@ -44,17 +50,26 @@ module _ (room : ℕ) (out : List ℕ) (at : ℕ) (bs : List ℕ) where
   unfolding putWithin
   put-none h = rw (lt-leb (at + length bs) room h)
 
--- within the limits a row is short
-pub row-short : {s : List ℕ} {job : Job} {spans rows : List ℕ} {count : ℕ} → Writable s job spans rows count → (n : ℕ) → n ≤ count
-    → chunkHeadSize + n * clusterRowSize count + length spans * spanRowSize n ≤ 16777216
-row-short {spans = spans} {count = count} w n h =
-    let few-clusters = clusters-most n 1024 count 1024 (omega (arith, w .few)) (w .few) in
-    let few-spans = spans-most (length spans) 32 n 1024 (w .fewSpans) (omega (arith, w .few)) in
-    omega (arith, few-clusters, few-spans)
+-- within the limits even the longest row is short
+pub most-short : {s : List ℕ} {job : Job} {spans rows : List ℕ} {count : ℕ} → Writable s job spans rows count → (n : ℕ) → n ≤ count
+    → chunkRowMost (length spans) count n ≤ 66_539
+most-short w n h = omega (arith, w .fewSpans, w .few)
+
+-- the row that a chunk is placed as: its clusters share the merged glyphs, and no two of its spans cover one byte
+pub placed-short : {s : List ℕ} {job : Job} {at : ℕ} {spans rows : List ℕ} {count n : ℕ} → CheckedChunk s job at → SpanPlaces s at spans → MergedRows s spans rows count
+    → (before : Reached) (cs : List Cluster) → length cs ≡ n → adjustedClusters (jobIn s) (chunkIn s at) (glyphsIn s rows count) ≡ given cs
+    → length (laidBytes (placedIn s at before (glyphsIn s rows count) cs)) ≤ chunkRowMost (length spans) count n
+unfolding laidBytes partsIn
+placed-short {s} {at = at} {spans} {rows} {count} k p m before cs many e =
+    let gs = glyphsIn s rows count in
+    let shared = of-given (Shared (length gs) (length gs)) _ cs (adjusted-share (jobIn s) (chunkIn s at) gs) e in
+    let sized = placed-sized (jobIn s) (progressOf before) (chunkIn s at) gs cs (k .spans) (record { glyphs = shared .glyphs; few = le-refl (length cs) }) in
+    let parts : length (chunkIn s at .parts) ≡ length spans = ap length (sym (p .parts)) ∙ length-map spans (λ (a : ℕ). partsOf (drop a s)) in
+    omega (arith, placed-most refl sized, glyphs-length s rows count (m .held))
 
 -- a row of r bytes
 module _ {s : List ℕ} {job : Job} {spans rows : List ℕ} {count : ℕ} (w : Writable s job spans rows count) (origin pen : Point) (cs : List Cluster) (r : ℕ)
-    (measured : (j : definitions.Job) (origin pen : Point) (gs : List Glyph) → length gs ≡ count → r ≡ chunkRowLength (chunkRow j origin pen gs cs (partsIn s spans))) where
+    (measured : RowLength r count cs (partsIn s spans)) where
   abbrev gs : List Glyph
   gs = glyphsIn s rows count
 
@@ -86,14 +101,8 @@ module _ {s : List ℕ} {job : Job} {spans rows : List ℕ} {count : ℕ} (w : W
   put-is : _≡_ {A = ChunkRow} put is
   put-is = row-is s job (w .places) spans (glyphsIn s rows count) origin pen cs
 
-  put-length : chunkRowLength put ≡ length (chunkRowBytes is)
+  pub put-length : chunkRowLength put ≡ length (chunkRowBytes is)
   put-length = ap chunkRowLength put-is ∙ sym (length-chunkRow is)
-
-  pub put-most : (n : ℕ) → length cs ≡ n → chunkRowLength put ≤ chunkHeadSize + n * clusterRowSize count + length spans * spanRowSize n
-  unfolding partsIn
-  put-most n e =
-      rw (length-map, e) at
-      (chunk-most (jobWith (job .mode) (fontsIn s (job .fonts))) origin cs pen (glyphsIn s rows count) count (glyphs-length s rows count (w .held)) (partsIn s spans))
 
   pub put-bytes : (at end : ℕ) → end ≡ at + chunkRowLength put → end - at ≡ length (chunkRowBytes is)
   put-bytes at end e = omega (arith, put-length)

@@ -17,7 +17,6 @@ use Rattle.labels.specs.Layout.{Progress, rowsOf, clusterRow, spanRows, adjuste
 use Rattle.lookup.specs.Rows.{partsIn}
 use Rattle.wire.specs.Splice.{splice}
 use Rattle.laid_chunk.specs.declared.progress.Reached.{Reached}
-use Rattle.laid_chunk.specs.Checked.{Advanced}
 use Rattle.laid_chunk.specs.declared.progress.Laid.{Laid}
 use Rattle.laid_chunk.specs.declared.progress.Laid.the-variants.{Going, Refused}
 
@@ -44,11 +43,6 @@ unfoldable pub laidFrom : ℕ → Outcome Progress → Laid
 laidFrom n (refused k) = Refused k
 laidFrom n (given st) = Going (reachedFrom n st)
 
--- what holds where the layout goes on
-abbrev pub IfGoing : (Reached → Type 0) → Laid → Type 0
-IfGoing P (Going r) = P r
-IfGoing P (Refused k) = Unit {0}
-
 -- the buffer with the bytes at `at`, if they end by `room`; else as it was
 unfoldable pub putWithin : ℕ → List ℕ → ℕ → List ℕ → List ℕ
 putWithin room out at bs = cond (leb (at + length bs) room) (splice out at bs) out
@@ -56,7 +50,6 @@ putWithin room out at bs = cond (leb (at + length bs) room) (splice out at bs) o
 -- the layout stands behind `st`, and its bytes are put
 pub record Behind (room : ℕ) (before after : Reached) (old new : List ℕ) (st : Progress) : Type 0 where
   pub reached : after ≡ reachedFrom (before .length) st
-  pub small : Advanced before after
   pub buffer : new ≡ putWithin room old (before .length) (laidBytes st)
 
 unfoldable pub putFrom : ℕ → List ℕ → ℕ → Outcome Progress → List ℕ
@@ -66,13 +59,12 @@ putFrom room out n (given st) = putWithin room out n (laidBytes st)
 -- the same behind an outcome: a refusal leaves the buffer as it was
 pub record LaidBehind (room : ℕ) (before : Reached) (r : Laid) (old new : List ℕ) (o : Outcome Progress) : Type 0 where
   pub laid : r ≡ laidFrom (before .length) o
-  pub small : IfGoing (Advanced before) r
   pub buffer : new ≡ putFrom room old (before .length) o
 
--- r is the row's length, and the row stands at `at` if it ends by `room`
+-- r is the row's length, which is short within the limits, and the row stands at `at` if it ends by `room`
 abbrev pub RowWritten : ℕ → ℕ → ℕ → List ℕ → List ℕ → ChunkRow → Type 0
 RowWritten room at r old new row =
-    (r ≡ length (chunkRowBytes row)) × (r ≤ 16777216) × (new ≡ putWithin room old at (chunkRowBytes row))
+    (r ≡ length (chunkRowBytes row)) × (r ≤ 66_539) × (new ≡ putWithin room old at (chunkRowBytes row))
 
 -- the row of a chunk, of the record s, that has clusters
 abbrev pub chunkRowIn : List ℕ → List ℕ → List Glyph → Point → Point → List Cluster → ChunkRow

@@ -16,7 +16,8 @@ ghost use lib.ListN.{length};
 ghost use Rattle.lookup.specs.Rows.{glyphsIn};
 ghost use Rattle.clusters.specs.Clusters.{clustersOf};
 ghost use Rattle.position.specs.Given.{Ordered};
-ghost use Rattle.laid_chunk.specs.Steps.{chunkIn, placedIn, Behind};
+ghost use Rattle.answer.specs.Chunks.{chunkRowMost};
+ghost use Rattle.laid_chunk.specs.Steps.{chunkIn, laidBytes, placedIn, Behind};
 ghost use Rattle.laid_chunk.specs.Checked.{SpanPlaces, Writable, Begun};
 
 // The text of the chunk at `at`.
@@ -95,7 +96,9 @@ fn place_clusters(
     room: usize,
 ) -> Reached
     requires { ⌜ (0 < n) × Writable (now s) job (now spans) (now rows) count × SpanPlaces (now s) at (now spans) × Begun (now s) at reached × (n ≤ count)
-        × (n ≤ length (now floats)) × (n ≤ length (now spare)) × (n ≤ length (now widths)) × Ordered (now order) (now words) n × (room ≤ length (now out)) ⌝ }
+        × (n ≤ length (now floats)) × (n ≤ length (now spare)) × (n ≤ length (now widths)) × Ordered (now order) (now words) n × (room ≤ length (now out))
+        × (length (laidBytes (placedIn (now s) at reached (glyphsIn (now s) (now rows) count) (clustersOf (now floats) (now words) n)))
+        ≤ chunkRowMost (length (now spans)) count n) ⌝ }
     ensures { λ r. ⌜ Behind room reached r (now (out .entry)) (now (out .exit))
         (placedIn (now (s .entry)) at reached (glyphsIn (now (s .entry)) (now (rows .entry)) count) (clustersOf (now (floats .entry)) (now (words .entry)) n)) ⌝ }
 {
@@ -161,7 +164,9 @@ pub fn place_chunk(
     room: usize,
 ) -> Reached
     requires { ⌜ Writable (now s) job (now spans) (now rows) count × SpanPlaces (now s) at (now spans) × Begun (now s) at reached × (n ≤ count)
-        × (n ≤ length (now floats)) × (n ≤ length (now spare)) × (n ≤ length (now widths)) × Ordered (now order) (now words) n × (room ≤ length (now out)) ⌝ }
+        × (n ≤ length (now floats)) × (n ≤ length (now spare)) × (n ≤ length (now widths)) × Ordered (now order) (now words) n × (room ≤ length (now out))
+        × (length (laidBytes (placedIn (now s) at reached (glyphsIn (now s) (now rows) count) (clustersOf (now floats) (now words) n)))
+        ≤ chunkRowMost (length (now spans)) count n) ⌝ }
     ensures { λ r. ⌜ Behind room reached r (now (out .entry)) (now (out .exit))
         (placedIn (now (s .entry)) at reached (glyphsIn (now (s .entry)) (now (rows .entry)) count) (clustersOf (now (floats .entry)) (now (words .entry)) n)) ⌝ }
 {

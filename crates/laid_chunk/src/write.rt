@@ -6,8 +6,10 @@ use labels::Job;
 use labels::Point;
 ghost use Prim.Native.Nat.{_≤_};
 ghost use lib.ListN.{length};
+ghost use Rattle.labels.specs.Answer.{chunkRowBytes};
 ghost use Rattle.lookup.specs.Rows.{glyphsIn};
 ghost use Rattle.clusters.specs.Clusters.{clustersOf};
+ghost use Rattle.answer.specs.Chunks.{chunkRowMost};
 ghost use Rattle.laid_chunk.specs.Steps.{chunkRowIn, RowWritten};
 ghost use Rattle.laid_chunk.specs.Checked.{Writable};
 
@@ -30,7 +32,9 @@ fn write_measured(
     room: usize,
 ) -> usize
     requires { ⌜ Writable (now s) job (now spans) (now rows) count × (n ≤ count) × (n ≤ length (now floats)) × (n ≤ length (now words)) × (n ≤ length (now firsts))
-        × (n ≤ length (now widths)) × (room ≤ length (now out)) × (at ≤ 4_294_967_296) ⌝ }
+        × (n ≤ length (now widths)) × (room ≤ length (now out)) × (at ≤ 4_294_967_296)
+        × (length (chunkRowBytes (chunkRowIn (now s) (now spans) (glyphsIn (now s) (now rows) count) origin pen (clustersOf (now floats) (now words) n)))
+        ≤ chunkRowMost (length (now spans)) count n) ⌝ }
     ensures { λ r. ⌜ RowWritten room at r (now (out .entry)) (now (out .exit)) (chunkRowIn (now (s .entry)) (now (spans .entry))
         (glyphsIn (now (s .entry)) (now (rows .entry)) count) origin pen (clustersOf (now (floats .entry)) (now (words .entry)) n)) ⌝ }
 {
@@ -77,11 +81,13 @@ pub fn write_chunk(
     room: usize,
 ) -> usize
     requires { ⌜ Writable (now s) job (now spans) (now rows) count × (n ≤ count) × (n ≤ length (now floats)) × (n ≤ length (now words)) × (n ≤ length (now firsts))
-        × (n ≤ length (now widths)) × (room ≤ length (now out)) × (at ≤ 4_294_967_296) ⌝ }
+        × (n ≤ length (now widths)) × (room ≤ length (now out)) × (at ≤ 4_294_967_296)
+        × (length (chunkRowBytes (chunkRowIn (now s) (now spans) (glyphsIn (now s) (now rows) count) origin pen (clustersOf (now floats) (now words) n)))
+        ≤ chunkRowMost (length (now spans)) count n) ⌝ }
     ensures { λ r. ⌜ RowWritten room at r (now (out .entry)) (now (out .exit)) (chunkRowIn (now (s .entry)) (now (spans .entry))
         (glyphsIn (now (s .entry)) (now (rows .entry)) count) origin pen (clustersOf (now (floats .entry)) (now (words .entry)) n)) ⌝ }
 {
-    // A short label need not be measured: the longest row that it can have ends by `room`.
+    // A row need not be measured if the longest that it can be ends by `room`.
     if at + chunk_row_most(spans.len(), count, n) <= room {
         let end = put_chunk_row(
             out,

@@ -42,10 +42,10 @@ module _ (s : List ℕ) (job : Job) (e : answerOf s ≡ C.Accepted job) where
       let behind = length-drop 5 s in
       let at : job .chunks ≡ 5 + chunksAt (afterVersion s) = ap (λ (j : Job). j .chunks) places-are in
       record {
+        passed = job-given;
         size = leb→le _ _ (first (rest size));
         places = places-are;
         begins = omega (arith, ends);
-        few = leb→le _ _ (first shape);
         fits = first (rest shape);
         ok = subst (λ (n : ℕ). T (all (chunkOk n) (jobIn s .chunks))) fonts-are (first (rest (rest (rest (rest (rest (all-every _ (a .values))))))));
       }

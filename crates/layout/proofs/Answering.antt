@@ -105,7 +105,7 @@ module _ (o : Outcome Progress) (old : List ℕ) where
 
   pub answers-refused : (k : ℕ) {new : List ℕ} → o ≡ refused k → new ≡ putFrom room old answerHeadSize o → Answers (answered o room) old (A.Refused k) new
   unfolding answered andThen
-  answers-refused k e b = rw e (record { number = refl; written = refl; buffer = b ∙ refused-unput o room old k e; small = omega arith })
+  answers-refused k e b = rw e (record { number = refl; written = refl; buffer = b ∙ refused-unput o room old k e })
 
   module _ (st : Progress) (e : o ≡ given st) where
     abbrev rows : List ChunkRow
@@ -114,19 +114,19 @@ module _ (o : Outcome Progress) (old : List ℕ) where
     pub answers-too-long : {new : List ℕ} → room < answerLength st → new ≡ putFrom room old answerHeadSize o → Answers (answered o room) old (A.Refused 10) new
     unfolding answered andThen fitting laidBytes
     answers-too-long h b =
-        rw (e, answer-long rows, lt-leb (answerLength st) room h) (record { number = refl; written = refl; buffer = b ∙ longer-unput o st e room old h; small = omega arith })
+        rw (e, answer-long rows, lt-leb (answerLength st) room h) (record { number = refl; written = refl; buffer = b ∙ longer-unput o st e room old h })
 
     -- the rows, and then the head
-    pub answers-written : (size count : ℕ) {put new : List ℕ} → size < 4294967296 → answerLength st ≤ room → size ≡ answerLength st → count ≡ length rows → put ≡ putFrom room old answerHeadSize o
+    pub answers-written : (size count : ℕ) {put new : List ℕ} → answerLength st ≤ room → size ≡ answerLength st → count ≡ length rows → put ≡ putFrom room old answerHeadSize o
         → new ≡ splice put 0 (headOf size count) → Answers (answered o room) old (A.Written size) new
     unfolding answered andThen fitting laidBytes
-    answers-written size count short h n c b₁ b₂ =
+    answers-written size count h n c b₁ b₂ =
         let six : length (headOf size count) ≡ answerHeadSize = simp (length-append, length-bytes) in
         let is : headOf size count ++ flatMap chunkRowBytes rows ≡ answerBytes rows = answer-is rows size count n c in
         let whole : splice (splice old answerHeadSize (flatMap chunkRowBytes rows)) 0 (headOf size count) ≡ answerBytes rows ++ drop (length (answerBytes rows)) old =
         subst (λ (k : ℕ). splice (splice old k (flatMap chunkRowBytes rows)) 0 (headOf size count) ≡ answerBytes rows ++ drop (length (answerBytes rows)) old) six
         (head-put old (headOf size count) (flatMap chunkRowBytes rows) (omega arith) ∙ ap (λ (a : List ℕ). a ++ drop (length a) old) is) in
-        rw (e, answer-long rows, le-leb (answerLength st) room h) (record { number = refl; written = n ∙ sym (answer-long rows); buffer = b₂ ∙ ap (λ (l : List ℕ). splice l 0 (headOf size count)) (b₁ ∙ rows-put o st e room old h) ∙ whole; small = short })
+        rw (e, answer-long rows, le-leb (answerLength st) room h) (record { number = refl; written = n ∙ sym (answer-long rows); buffer = b₂ ∙ ap (λ (l : List ℕ). splice l 0 (headOf size count)) (b₁ ∙ rows-put o st e room old h) ∙ whole })
 
 -- ---- the call
 

@@ -10,14 +10,17 @@ use lib.ListN.{length, drop}
 use lib.Seq.{drop-drop}
 use lib.Dec.{T}
 use lib.Ieee.Fits.{and-l, and-r}
+use Rattle.laws.proofs.Accepted.{accepted}
+use Rattle.laws.proofs.Sums.{total}
+use Rattle.laws.proofs.AnswerBound.{chunkLeast, job-least, chunk-bytes}
+use Rattle.laws.proofs.Characters.{chunk-characters}
 use Rattle.labels.specs.Bytes.{rows, each}
 use Rattle.labels.specs.Lists.{all}
 use Rattle.labels.specs.Outcome.{Outcome, refused, given}
 use Rattle.labels.specs.declared.Job.{Job}
 use Rattle.labels.specs.Job as definitions
-use Rattle.labels.specs.Job.{limits}
 use Rattle.labels.specs.Decode.{jobOf, chunksAt, chunkCount, chunkBytes, chunkSize, chunkFits, chunkOf}
-use Rattle.labels.specs.Check.{afterVersion, chunkOk}
+use Rattle.labels.specs.Check.{afterVersion, chunkOk, spansOk}
 use Rattle.labels.specs.Answer.{answerHeadSize}
 use Rattle.labels.specs.Layout.{Progress, beginning, layoutChunk}
 use Rattle.job.specs.Answer.{placesOf}
@@ -26,9 +29,9 @@ use Rattle.wire.proofs.Splice.{splice-none}
 use Rattle.laid_chunk.specs.declared.progress.Reached.{Reached}
 use Rattle.laid_chunk.specs.declared.progress.Laid.{Laid}
 use Rattle.laid_chunk.specs.declared.progress.Laid.the-variants.{Going, Refused}
-use Rattle.laid_chunk.specs.Checked.{CheckedChunk, Small, Advanced}
+use Rattle.laid_chunk.specs.Checked.{CheckedChunk, Small}
 use Rattle.layout.specs.Checked.{CheckedJob}
-use Rattle.laid_chunk.specs.Steps.{jobIn, chunkIn, progressOf, laidBytes, reachedFrom, laidFrom, putFrom, IfGoing, LaidBehind}
+use Rattle.laid_chunk.specs.Steps.{jobIn, chunkIn, progressOf, laidBytes, reachedFrom, laidFrom, putFrom, LaidBehind}
 use Rattle.layout.specs.Steps.{fitsIn, jobLaid}
 use Rattle.layout.proofs.Outcomes.{refused-of, given-of}
 use Rattle.layout.proofs.Prefixed.{FitsFrom, put-fits, refused-stays, measured-on, fits-on, put-on}
@@ -41,13 +44,19 @@ chunksLeft s at left = rows chunkSize chunkOf left (drop at s)
 abbrev pub restLaid : List ℕ → Reached → ℕ → ℕ → Outcome Progress
 restLaid s reached at left = foldl (layoutChunk (jobIn s)) (given (progressOf reached)) (chunksLeft s at left)
 
--- they pass checks 3 and 4, and so few characters and bytes came before that no number overflows
+-- the bytes that they have in the record at least
+abbrev bytesLeft : List ℕ → ℕ → ℕ → ℕ
+bytesLeft s at left = total chunkLeast (chunksLeft s at left)
+
+-- they pass checks 3, 4 and 6; and the record's other bytes bound what came before them: no more characters, and for 25 bytes no more than 64 of
+-- the answer
 pub record Left (s : List ℕ) (job : Job) (reached : Reached) (at left : ℕ) : Type 0 where
   pub begins : at ≤ length s
   pub fits : T (each chunkSize chunkFits left (drop at s))
   pub ok : T (all (chunkOk (job .fonts)) (chunksLeft s at left))
-  pub offset : reached .offset + left * 4_096 ≤ limits .chunks * 4_096
-  pub bytes : reached .length + left * 16_777_216 ≤ answerHeadSize + limits .chunks * 16_777_216
+  pub spans : T (all spansOk (chunksLeft s at left))
+  pub offset : reached .offset + bytesLeft s at left ≤ length s
+  pub bytes : 25 * reached .length + 64 * bytesLeft s at left ≤ 64 * length s
 
 -- the chunks that are left end by `room`, and with them put the buffer is `whole`
 pub record Putting (s : List ℕ) (room : ℕ) (out : List ℕ) (reached : Reached) (at left : ℕ) (whole : List ℕ) : Type 0 where
@@ -96,8 +105,9 @@ module _ (s : List ℕ) (job : Job) (k : CheckedJob s job) where
             begins = rw at-is (k .begins);
             fits = rw (at-first, left-is) (k .fits);
             ok = rw chunks-are (k .ok);
-            offset = let none : reached .offset ≡ 0 = ap (λ (r : Reached). r .offset) reached-is in let few = k .few in omega arith;
-            bytes = let few = k .few in omega (arith, head);
+            spans = rw chunks-are (accepted s (jobIn s) (k .passed) .spans);
+            offset = let none : reached .offset ≡ 0 = ap (λ (r : Reached). r .offset) reached-is in rw chunks-are (omega (arith, job-least s (jobIn s) (k .passed)));
+            bytes = rw chunks-are (omega (arith, head, job-least s (jobIn s) (k .passed)));
           }
 
       pub begun-laid : restLaid s reached at left ≡ jobLaid s
@@ -140,6 +150,10 @@ module _ (s : List ℕ) (job : Job) (reached : Reached) (at left : ℕ) (h : 0 <
     unfolding all
     all-here = subst (λ (cs : List definitions.Chunk). T (all (chunkOk (job .fonts)) cs)) here (l .ok)
 
+    spans-here : T (spansOk (chunkIn s at) && all spansOk others)
+    unfolding all
+    spans-here = subst (λ (cs : List definitions.Chunk). T (all spansOk cs)) here (l .spans)
+
     pub chunk-checked : CheckedJob s job → CheckedChunk s job at × Small reached
     chunk-checked k = (
       record {
@@ -148,8 +162,9 @@ module _ (s : List ℕ) (job : Job) (reached : Reached) (at left : ℕ) (h : 0 <
         begins = l .begins;
         fits = each-turn chunkSize chunkFits left (drop at s) h (l .fits) .0;
         ok = and-l (chunkOk (job .fonts) (chunkIn s at)) _ all-here;
+        spans = and-l (spansOk (chunkIn s at)) _ spans-here;
       },
-      record { offset = let o = l .offset in omega arith; bytes = let b = l .bytes in omega arith },
+      record { offset = let o = l .offset in let few = k .size in omega arith; bytes = let b = l .bytes in let few = k .size in omega arith },
     )
 
   module _ {room : ℕ} {old new : List ℕ} {r : Laid} (b : LaidBehind room reached r old new chunkLaid) where
@@ -174,15 +189,26 @@ module _ (s : List ℕ) (job : Job) (reached : Reached) (at left : ℕ) (h : 0 <
       behind : drop q s ≡ drop (chunkSize (drop at s)) (drop at s)
       behind = q-is .0 ∙ ap (λ (n : ℕ). drop n (drop at s)) size-is
 
+      left-bytes : bytesLeft s at left ≡ chunkLeast (chunkIn s at) + bytesLeft s q (left - 1)
+      left-bytes = rw (here, behind) refl
+
+      next-offset : next .offset ≤ reached .offset + length (chunkIn s at .text)
+      unfolding reachedFrom
+      next-offset = rw (went .2) (chunk-characters (jobIn s) (progressOf reached) (chunkIn s at) st (went .1))
+
+      next-bytes : T (spansOk (chunkIn s at)) → 25 * next .length ≤ 25 * reached .length + 64 * chunkLeast (chunkIn s at)
+      unfolding reachedFrom laidBytes
+      next-bytes t = let more = chunk-bytes (jobIn s) (reached .pen) (reached .offset) (chunkIn s at) st t (went .1) in rw (went .2) (omega arith)
+
       next-left : Left s job reached at left → Left s job next q (left - 1)
       next-left l =
-          let a : Advanced reached next = subst (IfGoing (Advanced reached)) r-is (b .small) in
           record {
             begins = q-is .1;
             fits = rw behind (each-turn chunkSize chunkFits left (drop at s) h (l .fits) .1);
             ok = rw behind (and-r (chunkOk (job .fonts) (chunkIn s at)) _ (all-here l));
-            offset = let o = l .offset in let more = a .offset in omega arith;
-            bytes = let o = l .bytes in let more = a .bytes in omega arith;
+            spans = rw behind (and-r (spansOk (chunkIn s at)) _ (spans-here l));
+            offset = let o = l .offset in omega (arith, left-bytes, next-offset);
+            bytes = let o = l .bytes in omega (arith, left-bytes, next-bytes (and-l (spansOk (chunkIn s at)) _ (spans-here l)));
           }
 
       whole-laid : restLaid s reached at left ≡ foldl (layoutChunk (jobIn s)) (given st) (chunksLeft s q (left - 1))

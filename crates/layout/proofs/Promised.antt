@@ -6,6 +6,7 @@ use native.Mathlib.Omega.{arith}
 use lib.ListN.{length, getD}
 use Rattle.laws.proofs.All.{All}
 use Rattle.laws.proofs.Counted.{IsByte}
+use Rattle.laws.proofs.NeverTooShort.{never-too-short, always-enough, length-bound, length-small}
 use Rattle.exact.proofs.Answer.{near-answer}
 use Rattle.labels.specs.Outcome.{Outcome, refused, given}
 use Rattle.labels.specs.Check.{checked}
@@ -28,12 +29,17 @@ module _ (s old : List ℕ) where
       → LaidOut s old (numberOf r) (lengthOf r) new
   promised-given {r} {new} bs e a =
       let is : answered (jobLaid s) (length old) ≡ layoutOf s (length old) = sym (call-given s (length old) e) in
+      let number : numberOf r ≡ definitions.numberOf (layoutOf s (length old)) = a .number ∙ ap definitions.numberOf is in
+      let written : lengthOf r ≡ definitions.lengthOf (layoutOf s (length old)) = a .written ∙ ap definitions.lengthOf is in
       let buffer : new ≡ bufferAfter (layoutOf s (length old)) old = a .buffer ∙ ap (λ (o : Outcome (List ℕ)). bufferAfter o old) is in
       record {
-        number = a .number ∙ ap definitions.numberOf is;
-        written = a .written ∙ ap definitions.lengthOf is;
+        number = number;
+        written = written;
         buffer = buffer;
-        small = a .small;
+        bound = rw written (length-bound s (length old));
+        small = rw written (length-small s (length old));
+        enough = λ h. rw number (never-too-short s (length old) h);
+        always = λ h. rw number (always-enough s (length old) h);
         near = λ answer f. subst (NearAnswer (checked s)) (sym buffer) (near-answer s (length old) answer old bs f);
       }
 
@@ -44,6 +50,9 @@ module _ (s old : List ℕ) where
         number = rw is refl;
         written = rw is refl;
         buffer = rw is refl;
+        bound = omega arith;
         small = omega arith;
+        enough = λ h. rw is at (never-too-short s (length old) h);
+        always = λ h. rw is at (always-enough s (length old) h);
         near = λ answer f. let same : refused k ≡ given answer = sym is ∙ f in let z : _≡_ {A = ℕ} 0 1 = cc same in absurd (omega arith);
       }

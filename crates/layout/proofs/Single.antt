@@ -2,7 +2,6 @@
 use Prim.Native.Nat.{ℕ, _+_}
 use mathlib.Core.Path.{_≡_, refl, sym, ap, _∙_}
 use mathlib.Core.List.{List, flatMap}
-use native.Mathlib.Omega.{arith}
 use lib.ListN.{length}
 use lib.Dec.{lit<}
 use Rattle.laws.proofs.Records.{length-rows}
@@ -14,11 +13,10 @@ use Rattle.labels.specs.Check.{afterVersion}
 use Rattle.labels.specs.Answer.{answerHeadSize}
 use Rattle.labels.specs.Layout.{beginning, layoutChunk}
 use Rattle.laid_chunk.specs.declared.progress.Laid.{Laid}
-use Rattle.laid_chunk.specs.declared.progress.Laid.the-variants.{Going, Refused}
 use Rattle.laid_chunk.specs.declared.progress.Reached.{Reached}
-use Rattle.laid_chunk.specs.Checked.{CheckedChunk, Small, Advanced}
-use Rattle.layout.specs.Checked.{CheckedJob, Short}
-use Rattle.laid_chunk.specs.Steps.{jobIn, chunkIn, progressOf, laidBytes, reachedFrom, IfGoing, LaidBehind}
+use Rattle.laid_chunk.specs.Checked.{CheckedChunk, Small}
+use Rattle.layout.specs.Checked.{CheckedJob}
+use Rattle.laid_chunk.specs.Steps.{jobIn, chunkIn, progressOf, laidBytes, reachedFrom, LaidBehind}
 use Rattle.layout.specs.Steps.{RowsPut, jobLaid}
 use Rattle.layout.proofs.ChunksLeft.{begun, begun-laid, chunk-checked, then-laid}
 
@@ -37,13 +35,9 @@ module _ (s : List ℕ) (job : Job) (k : CheckedJob s job) (one : chunkCount (af
   unfolding reachedFrom laidBytes flatMap
   head = ap (λ (r : Reached). r .length) e
 
-  short : (r : Laid) → IfGoing (Advanced start) r → IfGoing Short r
-  short (Going r) a = let more = a .bytes in omega (arith, head)
-  short (Refused n) a = tt
-
   pub single-laid : {r : Laid} {old new : List ℕ} → LaidBehind (length old) start r old new (layoutChunk (jobIn s) (given (progressOf start)) (chunkIn s at))
       → RowsPut (jobLaid s) r old new
-  single-laid {r} b = record { laid = rw (← job-is, ← head) (b .laid); short = short r (b .small); buffer = rw (← job-is, ← head) (b .buffer) }
+  single-laid b = record { laid = rw (← job-is, ← head) (b .laid); buffer = rw (← job-is, ← head) (b .buffer) }
 
 -- a chunk is counted for each
 pub count-of-chunks : (s : List ℕ) {count : ℕ} → count ≡ chunkCount (afterVersion s) → count ≡ length (jobIn s .chunks)

@@ -1,5 +1,5 @@
 -- What the call promises. Definitions only.
-use Prim.Native.Nat.{ℕ, _<_}
+use Prim.Native.Nat.{ℕ, _*_, _≤_}
 use mathlib.Core.Path.{_≡_}
 use mathlib.Core.List.{List}
 use lib.ListN.{length}
@@ -25,7 +25,6 @@ pub record Answers (o : Outcome (List ℕ)) (old : List ℕ) (r : Answered) (new
   pub number : numberOf r ≡ definitions.numberOf o
   pub written : lengthOf r ≡ definitions.lengthOf o
   pub buffer : new ≡ bufferAfter o old
-  pub small : lengthOf r < 4_294_967_296
 
 -- The call with the job's bytes `job` and a buffer that holds `old`: it returns the number `told` and the length `long`, and leaves the buffer as `new`.
 pub record LaidOut (job old : List ℕ) (told long : ℕ) (new : List ℕ) : Type 0 where
@@ -35,7 +34,11 @@ pub record LaidOut (job old : List ℕ) (told long : ℕ) (new : List ℕ) : Typ
   pub written : long ≡ definitions.lengthOf (layoutOf job (length old))
   -- every byte of the buffer: the answer and then the old bytes past it; all the old bytes where the job is refused
   pub buffer : new ≡ bufferAfter (layoutOf job (length old)) old
-  -- a length has room in 32 bits
-  pub small : long < 4_294_967_296
+  -- an answer has at most 64 / 25 of its job's bytes, and no answer has more than 167,772
+  pub bound : 25 * long ≤ 64 * length job
+  pub small : long ≤ 167_772
+  -- so a buffer of three times the job's bytes is never too short; and one of 167,772 bytes is enough for every job
+  pub enough : 3 * length job ≤ length old → ¬ (told ≡ 10)
+  pub always : 167_772 ≤ length old → ¬ (told ≡ 10)
   -- demand 3, of every job that is accepted: the buffer's bytes hold the clusters of the exact layout, each offset near its own
   pub near : (answer : List ℕ) → layoutOf job (length old) ≡ given answer → NearAnswer (checked job) new

@@ -9,8 +9,7 @@ use Rattle.labels.specs.Outcome.{Outcome, refused, given, andThen}
 use Rattle.labels.specs.Answer.{answerHeadSize}
 use Rattle.labels.specs.Layout.{Progress, beginning, rowsOf, layoutChunk, fitting}
 use Rattle.laid_chunk.specs.declared.progress.Laid.{Laid}
-use Rattle.laid_chunk.specs.Steps.{jobIn, laidBytes, laidFrom, IfGoing, putFrom}
-use Rattle.layout.specs.Checked.{Short}
+use Rattle.laid_chunk.specs.Steps.{jobIn, laidBytes, laidFrom, putFrom}
 
 -- the chunks of the record's job, laid out in order
 unfoldable pub jobLaid : List ℕ → Outcome Progress
@@ -24,7 +23,6 @@ fitsIn room (given st) = leb (answerHeadSize + length (laidBytes st)) room
 -- the layout of the whole job, and the buffer: the rows stand there exactly if no chunk is refused and the answer has room
 pub record RowsPut (o : Outcome Progress) (r : Laid) (old new : List ℕ) : Type 0 where
   pub laid : r ≡ laidFrom answerHeadSize o
-  pub short : IfGoing Short r
   pub buffer : new ≡ putFrom (length old) old answerHeadSize o
 
 -- the answer of the chunks laid out, or 10

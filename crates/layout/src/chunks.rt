@@ -19,9 +19,9 @@ ghost use Rattle.labels.specs.Check.{afterVersion};
 ghost use Rattle.labels.specs.Answer.{answerHeadSize};
 ghost use Rattle.labels.specs.Layout.{beginning};
 ghost use Rattle.job.specs.Answer.{placesOf};
-ghost use Rattle.laid_chunk.specs.Steps.{reachedFrom, laidFrom, putFrom, IfGoing};
+ghost use Rattle.laid_chunk.specs.Steps.{reachedFrom, laidFrom, putFrom};
 ghost use Rattle.layout.specs.Steps.{jobLaid, fitsIn};
-ghost use Rattle.layout.specs.Checked.{CheckedJob, Short};
+ghost use Rattle.layout.specs.Checked.{CheckedJob};
 
 // Before the first chunk.
 pub fn beginning() -> Reached
@@ -46,7 +46,7 @@ pub fn count_of(s: &[u8], job: Job) -> usize
 // rows stand in `out` if the whole answer fits, and else what stands there is of no account.
 pub fn lay_chunks(s: &[u8], job: Job, out: &mut [u8], room: usize) -> Laid
     requires { ⌜ CheckedJob (now s) job × (room ≤ length (now out)) ⌝ }
-    ensures { λ r. ⌜ (r ≡ laidFrom answerHeadSize (jobLaid (now (s .entry)))) × IfGoing Short r
+    ensures { λ r. ⌜ (r ≡ laidFrom answerHeadSize (jobLaid (now (s .entry))))
         × (fitsIn room (jobLaid (now (s .entry))) ≡ true → now (out .exit) ≡ putFrom room (now (out .entry)) answerHeadSize (jobLaid (now (s .entry)))) ⌝ }
 {
     let mut reached = beginning();

@@ -40,7 +40,8 @@ fn laid_out(s: &[u8], job: Job, answer: &mut [u8]) -> Answered
     }
 }
 
-// The whole call. What it promises, of any bytes and any buffer, is in specs/Called: the number, the length, the buffer's bytes, and demand 3.
+// The whole call. What it promises, of any bytes and any buffer, is in specs/Called: the number, the length, the buffer's bytes, how
+// much to lend, and demand 3.
 pub fn layout_text(job: &[u8], answer: &mut [u8]) -> Answered
     ensures { λ r. ⌜ LaidOut (now (job .entry)) (now (answer .entry)) (numberOf r) (lengthOf r) (now (answer .exit)) ⌝ }
 {

@@ -1,9 +1,7 @@
 -- `layout::laid_out` meets its contract. Assumes nothing.
-use mathlib.Core.Path.{sym, subst, _∙_}
+use mathlib.Core.Path.{sym, _∙_}
 use native.Mathlib.Omega.{arith}
 use Rattle.labels.specs.Answer.{answerHeadSize}
-use Rattle.layout.specs.Checked.{Short}
-use Rattle.laid_chunk.specs.Steps.{IfGoing}
 use Rattle.layout.specs.Steps.{jobLaid}
 use Rattle.layout.proofs.Single.{count-of-chunks}
 use Rattle.layout.proofs.Outcomes.{refused-of, given-of}
@@ -73,7 +71,7 @@ returns-3 c =
     let is = given-of answerHeadSize (jobLaid s) (told .0 .0) (sym (told .1) ∙ first .ensures .laid) in
     let counted = c .before .before .before in
     let long = end-length (is .0) (is .2) in
-    answers-written (jobLaid s) (start .args .answer .now) (is .0) (is .1) (told .0 .0 .length) (counted .count-of .result) (subst (IfGoing Short) (told .1) (first .ensures .short)) (omega (arith, long, c .before .before .before .before .before .if1 .left, first .kept .1 .1 .0))
+    answers-written (jobLaid s) (start .args .answer .now) (is .0) (is .1) (told .0 .0 .length) (counted .count-of .result) (omega (arith, long, c .before .before .before .before .before .if1 .left, first .kept .1 .1 .0))
     long (count-of-chunks s (counted .count-of .ensures .0) ∙ sym (rows-many s (is .0) (is .1)))
     (first .ensures .buffer) (c .before .before .put-answer-head .ensures)
 

@@ -42,10 +42,8 @@ returns c =
     let spans = c .before .before .before .before in
     let clusters = spans .before .before .before in
     let a = clusters .before .before .before .before .before .args in
-    let cs = clustersOf (a .floats .now) (a .words .now) (a .n) in (
-      omega (arith, clusters .cluster-rows-length .ensures .1, spans .span-rows-length .ensures .0),
-      λ job origin pen gs e. rw (chunk-size job origin pen gs (a .count) e cs (partsIn (a .s .now) (a .spans .now)), clusters .cluster-rows-length .ensures .0, spans .span-rows-length .ensures .1 job origin) refl,
-    )
+    let cs = clustersOf (a .floats .now) (a .words .now) (a .n) in
+    λ job origin pen gs e. rw (chunk-size job origin pen gs (a .count) e cs (partsIn (a .s .now) (a .spans .now)), clusters .cluster-rows-length .ensures .0, spans .span-rows-length .ensures .1 job origin) refl
 
 pub chunk-row-length-spec : {M : Type 1} → statement M
 chunk-row-length-spec =

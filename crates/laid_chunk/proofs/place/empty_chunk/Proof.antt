@@ -2,7 +2,8 @@
 use mathlib.Core.Path.{ap, _∙_}
 use native.Mathlib.Omega.{arith}
 use Rattle.labels.specs.Utf8.{characters}
-use Rattle.laid_chunk.proofs.Placed.{without-spans, few-characters, empty-behind}
+use Rattle.lookup.specs.Rows.{glyphsIn}
+use Rattle.laid_chunk.proofs.Placed.{without-spans, empty-short, empty-row, one-behind}
 use borrow.Author.Needs.{needs}
 use Rattle.laid_chunk.proofs.place.empty_chunk.Statement.{statement}
 use Rattle.laid_chunk.proofs.place.empty_chunk.Tie as tie
@@ -12,8 +13,11 @@ slice-aggregate-none c = search needs
 
 write-chunk-requires : tie.Need-write-chunk-requires
 write-chunk-requires c κs =
-    let given = c .before .before .before .before .before .before .before .before .before .before .before .pre in
-    (without-spans (given .0), omega arith, omega arith, omega arith, omega arith, omega arith, given .2, given .1 .bytes)
+    let start = c .before .before .before .before .before .before .before .before .before .before .before in
+    let a = start .args in
+    let given = start .pre in
+    let short = empty-short (a .s .now) (a .spans .now) (glyphsIn (a .s .now) (a .rows .now) (a .count)) (a .reached .pen) (a .floats .now) (a .words .now) in
+    (without-spans (given .0), omega arith, omega arith, omega arith, omega arith, omega arith, given .2, omega (arith, given .1 .bytes), omega (arith, short))
 
 chunk-text-requires : tie.Need-chunk-text-requires
 chunk-text-requires c κs = search needs
@@ -42,9 +46,8 @@ returns c =
     let written = c .before .before .before .before .before .before .before .before .before .write-chunk in
     let counted = c .before .character-count in
     let text = c .before .before .chunk-text .ensures in
-    empty-behind (start .args .s .now) (start .args .at) (start .args .room) (start .args .reached) _ _ _ (counted .result) (written .result)
-    (counted .ensures .0 ∙ ap characters text) (few-characters text (counted .ensures .1) (start .pre .1 .text)) (written .ensures .1)
-    (start .args .spans .now) (start .args .floats .now) (start .args .words .now) (written .ensures .0) (written .ensures .2)
+    one-behind (empty-row (start .args .s .now) (start .args .at) (start .args .reached) _ (start .args .spans .now) (start .args .floats .now) (start .args .words .now))
+    (counted .ensures .0 ∙ ap characters text) (written .ensures)
 
 pub empty-chunk-spec : {M : Type 1} → statement M
 empty-chunk-spec =

@@ -31,7 +31,7 @@ returns c =
 place-clusters-requires : tie.Need-place-clusters-requires
 place-clusters-requires c κs =
     let given = c .before .before .before .before .before .before .before .before .before .before .before .before .before .before .pre in
-    (omega arith, given .0, given .1, given .2, given .3, given .4, given .5, given .6, given .7, given .8)
+    (omega arith, given .0, given .1, given .2, given .3, given .4, given .5, given .6, given .7, given .8, given .9)
 
 same-length-6 : tie.Need-same-length-6
 same-length-6 c = search needs

@@ -1,8 +1,10 @@
 -- `laid_chunk::steps::chunk_on_rows` meets its contract. Assumes nothing.
 use native.Mathlib.Omega.{arith}
+use Rattle.clusters.proofs.Rows.{clusters-length}
 use Rattle.forming.proofs.FewClusters.{few-clusters}
 use Rattle.laid_chunk.specs.Steps.{jobIn, chunkIn}
 use Rattle.laid_chunk.proofs.Checked.{begun, widths-ok, writable}
+use Rattle.laid_chunk.proofs.Rows.{placed-short}
 use Rattle.laid_chunk.proofs.Behind.{adjusted-in, formed-given, formed-refused, ready-of, going, refusing}
 use borrow.Author.Needs.{needs}
 use Rattle.laid_chunk.proofs.steps.chunk_on_rows.Statement.{statement}
@@ -37,7 +39,10 @@ place-chunk-requires c κs =
     let adjusted = c .before .before .before .before .before .before .before .before .before .before .before .before .before .before .before .adjusted-clusters in
     let told = c .before .before .before .before .before .before .before .formed .given in
     let ready = ready-of (adjusted .result) (told .0 .0) _ _ _ (told .1) (adjusted .ensures .1) in
-    let few = few-clusters (a .s .now) (a .spans .now) (a .rows .now) (a .count) (given .2 .held) in (
+    let few = few-clusters (a .s .now) (a .spans .now) (a .rows .now) (a .count) (given .2 .held) in
+    let text = c .before .before .before .before .before .before .before .before .before .before .before .before .before .before .before .before .before .before .before .before .chunk-text .ensures in
+    let is = adjusted-in (a .s .now) (a .job) (a .at) (a .spans .now) _ _ (given .0 .places) (given .1) text in
+    let cs-is = formed-given (adjusted .result) _ (adjusted .ensures .0) is (told .0 .0) (told .1) in (
       writable (a .s .now) (a .job) (a .at) (given .0) (a .spans .now) (given .1) (a .rows .now) (a .count) (given .2),
       given .1,
       begun (a .s .now) (a .job) (a .at) (given .0) (a .reached) (given .3),
@@ -47,6 +52,9 @@ place-chunk-requires c κs =
       omega (arith, ready .0, given .8),
       record { rows = omega (arith, ready .0, given .5, adjusted .kept .1 .1 .1 .1 .1 .1 .1 .0); count = omega (arith, ready .0, given .6, adjusted .kept .1 .1 .1 .1 .1 .1 .1 .1 .0); few = omega (arith, ready .0, few, given .2 .few); keys = ready .1 },
       given .9,
+      placed-short (given .0) (given .1) (given .2) (a .reached) _
+          (clusters-length _ _ (told .0 .0) (omega (arith, ready .0, given .4, adjusted .kept .1 .1 .1 .1 .1 .1 .0)) (omega (arith, ready .0, given .5, adjusted .kept .1 .1 .1 .1 .1 .1 .1 .0)))
+          cs-is,
     )
 
 enum-known-formed-2 : tie.Need-enum-known-formed-2

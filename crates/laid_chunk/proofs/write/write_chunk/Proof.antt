@@ -1,8 +1,7 @@
 -- `laid_chunk::write::write_chunk` meets its contract. Assumes nothing.
 use native.Mathlib.Omega.{arith}
 use Rattle.clusters.specs.Clusters.{clustersOf}
-use Rattle.clusters.proofs.Rows.{clusters-length}
-use Rattle.laid_chunk.proofs.Rows.{row-short, put-most, put-bytes, put-whole}
+use Rattle.laid_chunk.proofs.Rows.{most-short, put-length, put-bytes, put-whole}
 use borrow.Author.Needs.{needs}
 use Rattle.laid_chunk.proofs.write.write_chunk.Statement.{statement}
 use Rattle.laid_chunk.proofs.write.write_chunk.Tie as tie
@@ -16,7 +15,7 @@ add-if1 : tie.Need-add-if1
 add-if1 c =
     let start = c .before .before .before .before .before .before .before in
     let given = start .pre in
-    omega (arith, row-short (given .0) (start .args .n) (given .1), given .7, c .chunk-row-most .ensures)
+    omega (arith, most-short (given .0) (start .args .n) (given .1), given .7, c .chunk-row-most .ensures)
 
 put-chunk-row-requires : tie.Need-put-chunk-row-requires
 put-chunk-row-requires c κs =
@@ -25,7 +24,7 @@ put-chunk-row-requires c κs =
     let a = start .args in
     let given = start .pre in
     let cs = clustersOf (a .floats .now) (a .words .now) (a .n) in
-    let most = put-most (given .0) (a .origin) (a .pen) cs (a .n) (clusters-length (a .floats .now) (a .words .now) (a .n) (given .2) (given .3)) in (
+    let long = put-length (given .0) (a .origin) (a .pen) cs in (
       omega (arith, given .0 .few, given .1),
       given .2,
       given .3,
@@ -35,7 +34,7 @@ put-chunk-row-requires c κs =
       omega (arith, given .0 .few),
       given .0 .held,
       given .0 .units,
-      omega (arith, most, given .6, branch .if1 .taken, branch .before .chunk-row-most .ensures),
+      omega (arith, long, given .8, given .6, branch .if1 .taken, branch .before .chunk-row-most .ensures),
     )
 
 sub-result : tie.Need-sub-result
@@ -58,10 +57,10 @@ returns c =
     let a = start .args in
     let given = start .pre in
     let cs = clustersOf (a .floats .now) (a .words .now) (a .n) in
-    let most = put-most (given .0) (a .origin) (a .pen) cs (a .n) (clusters-length (a .floats .now) (a .words .now) (a .n) (given .2) (given .3)) in (
+    let long = put-length (given .0) (a .origin) (a .pen) cs in (
       put-bytes (given .0) (a .origin) (a .pen) cs (a .at) (put .result) (put .ensures .1),
-      omega (arith, most, put .ensures .1, row-short (given .0) (a .n) (given .1)),
-      put-whole (given .0) (a .origin) (a .pen) cs (a .room) (a .out .now) (a .at) (omega (arith, most, branch .if1 .taken, branch .before .chunk-row-most .ensures)) (put .ensures .0),
+      omega (arith, long, given .8, put .ensures .1, most-short (given .0) (a .n) (given .1)),
+      put-whole (given .0) (a .origin) (a .pen) cs (a .room) (a .out .now) (a .at) (omega (arith, long, given .8, branch .if1 .taken, branch .before .chunk-row-most .ensures)) (put .ensures .0),
     )
 
 write-measured-requires : tie.Need-write-measured-requires

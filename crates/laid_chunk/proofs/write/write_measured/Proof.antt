@@ -3,7 +3,7 @@ use native.Mathlib.Omega.{arith}
 use Rattle.lookup.specs.Rows.{fontsIn}
 use Rattle.clusters.specs.Clusters.{clustersOf}
 use Rattle.answer.specs.Spans.{jobWith}
-use Rattle.laid_chunk.proofs.Rows.{row-short, as-long, row-bytes, row-left, row-put}
+use Rattle.laid_chunk.proofs.Rows.{most-short, as-long, row-bytes, row-left, row-put}
 use borrow.Author.Needs.{needs}
 use Rattle.laid_chunk.proofs.write.write_measured.Statement.{statement}
 use Rattle.laid_chunk.proofs.write.write_measured.Tie as tie
@@ -15,7 +15,10 @@ add-if1 : tie.Need-add-if1
 add-if1 c =
     let start = c .before .before .before .before .before .before .before .before .before .before .before .before .before in
     let given = start .pre in
-    omega (arith, row-short (given .0) (start .args .n) (given .1), given .7, c .before .before .before .before .chunk-row-length .ensures .0)
+    let a = start .args in
+    let measured = c .before .before .before .before .chunk-row-length in
+    let cs = clustersOf (a .floats .now) (a .words .now) (a .n) in
+    omega (arith, most-short (given .0) (a .n) (given .1), given .7, given .8, row-bytes (given .0) (a .origin) (a .pen) cs (measured .result) (measured .ensures))
 
 same-length : tie.Need-same-length
 same-length c = search needs
@@ -30,9 +33,9 @@ returns c =
     let given = start .pre in
     let measured = c .before .before .before .before .before .chunk-row-length in
     let cs = clustersOf (a .floats .now) (a .words .now) (a .n) in (
-      row-bytes (given .0) (a .origin) (a .pen) cs (measured .result) (measured .ensures .1),
-      omega (arith, row-short (given .0) (a .n) (given .1), measured .ensures .0),
-      row-left (given .0) (a .origin) (a .pen) cs (measured .result) (measured .ensures .1) (a .room) (a .out .now) (a .at) (omega (arith, c .if1 .taken)),
+      row-bytes (given .0) (a .origin) (a .pen) cs (measured .result) (measured .ensures),
+      omega (arith, given .8, row-bytes (given .0) (a .origin) (a .pen) cs (measured .result) (measured .ensures), most-short (given .0) (a .n) (given .1)),
+      row-left (given .0) (a .origin) (a .pen) cs (measured .result) (measured .ensures) (a .room) (a .out .now) (a .at) (omega (arith, c .if1 .taken)),
     )
 
 put-chunk-row-requires : tie.Need-put-chunk-row-requires
@@ -42,7 +45,7 @@ put-chunk-row-requires c κs =
     let given = start .pre in
     let measured = c .before .before .before .before .before .before .before .before .chunk-row-length in
     let cs = clustersOf (a .floats .now) (a .words .now) (a .n) in
-    let long = as-long (given .0) (a .origin) (a .pen) cs (measured .result) (measured .ensures .1) (jobWith (a .job .mode) (fontsIn (a .s .now) (a .job .fonts))) in (
+    let long = as-long (given .0) (a .origin) (a .pen) cs (measured .result) (measured .ensures) (jobWith (a .job .mode) (fontsIn (a .s .now) (a .job .fonts))) in (
       omega (arith, given .0 .few, given .1),
       given .2,
       given .3,
@@ -71,9 +74,9 @@ returns-2 c =
     let given = start .pre in
     let measured = c .before .before .before .before .before .before .before .before .before .before .before .before .before .before .before .chunk-row-length in
     let cs = clustersOf (a .floats .now) (a .words .now) (a .n) in (
-      row-bytes (given .0) (a .origin) (a .pen) cs (measured .result) (measured .ensures .1),
-      omega (arith, row-short (given .0) (a .n) (given .1), measured .ensures .0),
-      row-put (given .0) (a .origin) (a .pen) cs (measured .result) (measured .ensures .1) (a .room) (a .out .now) (a .at) (omega (arith, c .before .before .before .before .before .before .before .before .before .before .if1 .left)) (c .before .before .before .before .before .before .put-chunk-row .ensures .0),
+      row-bytes (given .0) (a .origin) (a .pen) cs (measured .result) (measured .ensures),
+      omega (arith, given .8, row-bytes (given .0) (a .origin) (a .pen) cs (measured .result) (measured .ensures), most-short (given .0) (a .n) (given .1)),
+      row-put (given .0) (a .origin) (a .pen) cs (measured .result) (measured .ensures) (a .room) (a .out .now) (a .at) (omega (arith, c .before .before .before .before .before .before .before .before .before .before .if1 .left)) (c .before .before .before .before .before .before .put-chunk-row .ensures .0),
     )
 
 pub write-measured-spec : {M : Type 1} → statement M

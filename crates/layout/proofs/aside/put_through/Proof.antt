@@ -1,11 +1,9 @@
 -- `layout::aside::put_through` meets its contract. Assumes nothing.
 use Prim.Native.Nat.{_≤_}
-use mathlib.Core.Path.{sym, subst, _∙_}
+use mathlib.Core.Path.{sym, _∙_}
 use native.Mathlib.Omega.{arith}
 use lib.ListN.{length, length-take, length-drop}
 use Rattle.labels.specs.Answer.{answerHeadSize}
-use Rattle.layout.specs.Checked.{Short}
-use Rattle.laid_chunk.specs.Steps.{IfGoing}
 use Rattle.layout.specs.Steps.{jobLaid}
 use Rattle.layout.proofs.Outcomes.{refused-of, given-of}
 use Rattle.layout.proofs.Copied.{end-length, refused-unput, longer-unput, fits-of, rows-copied}
@@ -37,7 +35,6 @@ returns c =
     let old = start .args .answer .now in
     record {
       laid = laid;
-      short = subst (IfGoing Short) (told .1) (first .ensures .1);
       buffer = sym (longer-unput o (is .0) (is .1) (length old) old (omega (arith, long, c .if1 .taken)));
     }
 
@@ -61,7 +58,7 @@ returns-2 c =
     let long = end-length (is .0) (is .2) in
     let again = c .before .before .lay-chunks2 .ensures in
     let fits = fits-of o (is .0) (is .1) (length (start .args .answer .now)) (omega (arith, long, c .before .before .before .before .before .if1 .left)) in
-    record { laid = again .0; short = again .1; buffer = again .2 fits }
+    record { laid = again .0; buffer = again .1 fits }
 
 sub-put-bytes : tie.Need-sub-put-bytes
 sub-put-bytes c =
@@ -110,7 +107,7 @@ returns-3 c =
     let told = c .before .number .given in
     let laid = sym (told .1) ∙ first .ensures .0 in
     let old = start .args .answer .now in
-    record { laid = laid; short = tt; buffer = sym (refused-unput o (length old) old (told .0 .0) (refused-of answerHeadSize o (told .0 .0) laid)) }
+    record { laid = laid; buffer = sym (refused-unput o (length old) old (told .0 .0) (refused-of answerHeadSize o (told .0 .0) laid)) }
 
 same-length-5 : tie.Need-same-length-5
 same-length-5 c = search needs
@@ -134,8 +131,7 @@ returns-4 c =
     let fits = fits-of o (is .0) (is .1) (length blank) (omega (arith, long)) in
     record {
       laid = laid;
-      short = subst (IfGoing Short) (told .1) (first .ensures .1);
-      buffer = rows-copied o (is .0) (is .1) size blank old long inside (omega (arith, c .before .before .before .before .before .before .before .if1 .left)) (first .ensures .2 fits) (c .before .before .put-bytes .ensures);
+      buffer = rows-copied o (is .0) (is .1) size blank old long inside (omega (arith, c .before .before .before .before .before .before .before .if1 .left)) (first .ensures .1 fits) (c .before .before .put-bytes .ensures);
     }
 
 pub put-through-spec : {M : Type 1} → statement M

@@ -51,7 +51,7 @@ returns c =
     let l = c .before .before .before .before .before .before .before .before .loop in
     let number = c .before .number .given in
     let is = refused-laying (a .s .now) (a .job) (l .reached) (l .at) (l .left) (omega arith) (c .before .before .before .before .before .layout-chunk .ensures) (number .0 .0) (number .1) (l .inv .1) in
-    (is .0, tt, λ e. absurd (is .1 e))
+    (is .0, λ e. absurd (is .1 e))
 
 from-requires : tie.Need-from-requires Inv-loop μ-loop
 from-requires c κs = search needs
@@ -87,8 +87,7 @@ returns-2 : tie.Need-returns-2 Inv-loop μ-loop
 returns-2 c =
     let a = c .before .before .before .before .before .before .before .args in
     let l = c .before .loop in
-    let is = laying-done (a .s .now) (a .job) (l .reached) (l .at) (l .left) (c .loop-test .left) (l .inv .1) in
-    (is .0, omega (arith, l .inv .1 .known .bytes), is .1)
+    laying-done (a .s .now) (a .job) (l .reached) (l .at) (l .left) (c .loop-test .left) (l .inv .1)
 
 pub lay-chunks-spec : {M : Type 1} → statement M
 lay-chunks-spec =
