@@ -246,7 +246,7 @@ static void print_column(float extent) {
 }
 
 static void lay_out(const struct writer *job) {
-    static uint8_t answer[65536];
+    static uint8_t answer[LAYOUT_ANSWER_MOST];
     struct layout_result result = layout_text(job->bytes, job->length, answer, sizeof answer);
     if (result.number != LAYOUT_DONE) {
         printf("refused with %u\n", (unsigned)result.number);

@@ -27,9 +27,9 @@ struct layout_result {
  * Done: the answer stands in the first `length` bytes of `answer`, and the bytes behind it are as they were.
  * Refused: `answer` is as it was, every byte of it.
  *
- * A buffer three times as long as the job is never too short: a glyph has 25 bytes in a job and brings at most 64 to the answer (a cluster
- * row, its glyph and a run), and no other row takes three times the bytes that it has in the job. (Counted from the sizes of the rows; the
- * proof does not speak of it. A buffer that is too short is refused with 10 and left as it was.)
+ * A buffer three times as long as the job is never refused with 10: an answer has at most 64 / 25 of its job's bytes. Nor is one of
+ * LAYOUT_ANSWER_MOST bytes, whatever the job. Both are proved, as the rest is. A buffer that is too short is refused with 10 and left as it
+ * was.
  */
 struct layout_result layout_text(const uint8_t *job, size_t job_len, uint8_t *answer, size_t answer_len);
 
@@ -64,6 +64,7 @@ enum layout_number {
 #define LAYOUT_SHIFTS_MOST 8
 #define LAYOUT_GLYPHS_MOST 1024 /* of a span, and of a chunk once its spans are merged */
 #define LAYOUT_CLUSTER_LENGTH_MOST 64
+#define LAYOUT_ANSWER_MOST 167772 /* bytes of an answer, whatever its job: 64 / 25 of LAYOUT_JOB_MOST */
 #define LAYOUT_NO_FONT 255 /* the font byte of a span without a font: such a span has no glyphs */
 
 /* ---- a span's adjust byte: how its clusters are brought to its text length. Without a text length it says nothing.
