@@ -16,8 +16,8 @@ use Rattle.labels.specs.Answer.{ClusterRow, glyphRowBytes, clusterRowBytes, clu
 use Rattle.labels.specs.Layout.{glyphRows, glyphsOf, clusterRow}
 use Rattle.laws.proofs.Numbers.{length-bytes}
 use Rattle.laws.proofs.AnswerLength.{length-floats, length-clusterRow, length-flatMap}
-use Rattle.lookup.specs.Rows.{glyphsIn}
-use Rattle.lookup.proofs.Rows.{map-in}
+use Rattle.job_rows.specs.Rows.{glyphsIn}
+use Rattle.job_rows.proofs.ByNumber.{map-in}
 use Rattle.clusters.specs.Clusters.{clusterOf, floatsOf, clustersOf}
 use Rattle.clusters.proofs.Rows.{clusters-length, clusters-at}
 use Rattle.forming.proofs.Passing.{all-take, all-drop}

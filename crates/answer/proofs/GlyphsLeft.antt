@@ -14,7 +14,7 @@ use Rattle.labels.specs.Answer.{glyphRowBytes, glyphRowSize}
 use Rattle.labels.specs.Layout.{glyphRows}
 use Rattle.laws.proofs.All.{and-left, and-right}
 use Rattle.laws.proofs.AnswerLength.{length-glyphRow, length-equal}
-use Rattle.lookup.specs.Rows.{glyphsIn}
+use Rattle.job_rows.specs.Rows.{glyphsIn}
 use Rattle.forming.proofs.Glyphs.{glyph-next}
 use Rattle.forming.proofs.Passing.{all-first, all-rest}
 use Rattle.wire.specs.Splice.{splice}

@@ -23,8 +23,8 @@ use Rattle.laws.proofs.Numbers.{length-bytes}
 use Rattle.laws.proofs.AnswerLength.{length-flatMap, length-floats, length-spanRow}
 use Rattle.wire.specs.Splice.{splice}
 use Rattle.wire.proofs.Splice.{splice-then}
-use Rattle.lookup.specs.Rows.{partsIn}
-use Rattle.lookup.proofs.Rows.{map-in}
+use Rattle.job_rows.specs.Rows.{partsIn}
+use Rattle.job_rows.proofs.ByNumber.{map-in}
 use Rattle.decoration.specs.Runs.{runsIn}
 use Rattle.answer.specs.Spans.{jobWith, rowFloats, spanHeadBytes, hasRow}
 use Rattle.answer.proofs.RunRows.{length-runs, runs-count}

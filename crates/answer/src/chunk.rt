@@ -22,7 +22,7 @@ ghost use mathlib.Core.Bool.{true};
 ghost use Prim.Native.Nat.{_+_, _≤_};
 ghost use lib.ListN.{length};
 ghost use Rattle.labels.specs.Answer.{chunkHeadSize, chunkRowBytes, chunkRowLength};
-ghost use Rattle.lookup.specs.Rows.{fontsIn, glyphsIn, partsIn};
+ghost use Rattle.job_rows.specs.Rows.{fontsIn, glyphsIn, partsIn};
 ghost use Rattle.clusters.specs.Clusters.{clustersOf};
 ghost use Rattle.wire.specs.Splice.{splice};
 ghost use Rattle.answer.specs.Glyphs.{unitsIn};

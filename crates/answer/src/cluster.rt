@@ -22,7 +22,7 @@ ghost use Prim.Native.Nat.{_+_, _*_, _≤_};
 ghost use lib.ListN.{length};
 ghost use Rattle.labels.specs.Answer.{clusterRowBytes, clusterRowLength, clusterRowSize};
 ghost use Rattle.labels.specs.Layout.{clusterRow};
-ghost use Rattle.lookup.specs.Rows.{glyphsIn};
+ghost use Rattle.job_rows.specs.Rows.{glyphsIn};
 ghost use Rattle.clusters.specs.Clusters.{clusterOf, clustersOf};
 ghost use Rattle.wire.specs.Splice.{splice};
 ghost use Rattle.answer.specs.Glyphs.{unitsIn};

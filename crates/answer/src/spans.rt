@@ -13,7 +13,7 @@ ghost use Rattle.labels.specs.declared.Point.{Point};
 ghost use Rattle.labels.specs.Answer.{spanRowSize, spanRowBytes, spanRowLength, sum};
 ghost use Rattle.labels.specs.Layout.{spanRows};
 ghost use Rattle.wire.specs.Splice.{splice};
-ghost use Rattle.lookup.specs.Rows.{fontsIn, partsIn};
+ghost use Rattle.job_rows.specs.Rows.{fontsIn, partsIn};
 ghost use Rattle.clusters.specs.Clusters.{clustersOf};
 ghost use Rattle.answer.specs.Spans.{jobWith};
 

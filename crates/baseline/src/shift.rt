@@ -1,10 +1,10 @@
 // The baseline shifts of a span, and their sum.
+use job_rows::rows::shift_kind_at;
+use job_rows::rows::shift_number_at;
 use labels::BaselineShift;
 use labels::Font;
 use measure::subscript_offset;
 use measure::superscript_offset;
-use parts::rows::shift_kind_at;
-use parts::rows::shift_number_at;
 use wire::place::from;
 ghost use mathlib.Core.Path.{_≡_};
 ghost use Prim.Native.Nat.{_<_};

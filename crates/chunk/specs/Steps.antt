@@ -14,10 +14,10 @@ use Rattle.labels.specs.Spacing.{applyLetterSpacing, applyWordSpacing}
 use Rattle.labels.specs.declared.Cluster.{Cluster}
 use Rattle.labels.specs.Cluster.{rounded, formGlyphClusters, applyWritingMode, applyLengthAdjust}
 use Rattle.labels.specs.Position.{logicalOrder}
-use Rattle.lookup.specs.Rows.{glyphsIn}
+use Rattle.job_rows.specs.Rows.{glyphsIn}
 use Rattle.clusters.specs.Clusters.{indexesIn}
 use Rattle.forming.specs.Groups.{widthsOk, clustersIn}
-use Rattle.sorting.specs.Sorted.{keyOf}
+use Rattle.text_order.specs.Keys.{keyOf}
 use Rattle.chunk.specs.declared.Formed.{Formed}
 use Rattle.chunk.specs.declared.Formed.the-variants as F
 

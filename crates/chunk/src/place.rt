@@ -1,8 +1,8 @@
 // Step 7 of a chunk: the number of each cluster's character, and then the places along the line.
 use labels::Job;
-use order::character_numbers;
 use position::Positioned;
 use position::line::resolve_clusters_positions_horizontal;
+use text_order::character_numbers;
 use wire::place::from;
 ghost use mathlib.Core.Path.{_≡_};
 ghost use Prim.Native.Nat.{_+_, _≤_, _<_};

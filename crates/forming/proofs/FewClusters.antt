@@ -8,7 +8,7 @@ use lib.Dec.{ltb, eqb}
 use Rattle.labels.specs.declared.Glyph.{Glyph}
 use Rattle.labels.specs.declared.Span.{Span}
 use Rattle.labels.specs.Group.{chunkSpanAt, joinRun, glyphRuns, coveredRuns, groups}
-use Rattle.lookup.specs.Rows.{spansIn, glyphsIn}
+use Rattle.job_rows.specs.Rows.{spansIn, glyphsIn}
 use Rattle.forming.specs.Groups.{clustersIn}
 use Rattle.forming.proofs.Glyphs.{glyphs-length}
 

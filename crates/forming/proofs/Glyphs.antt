@@ -10,8 +10,8 @@ use lib.Seq.{take-nil, drop-cons, getD-take, take-take, length-take-le}
 use Rattle.labels.specs.declared.Glyph.{Glyph}
 use Rattle.labels.specs.Check.{unitsOk}
 use Rattle.labels.specs.Decode.{glyphOf, spanOf}
-use Rattle.lookup.specs.Rows.{spansIn, glyphsIn}
-use Rattle.lookup.proofs.Rows.{map-in}
+use Rattle.job_rows.specs.Rows.{spansIn, glyphsIn}
+use Rattle.job_rows.proofs.ByNumber.{map-in}
 use Rattle.forming.proofs.Passing.{all-first, all-take, all-drop}
 use Rattle.forming.specs.Groups.{glyphIn, widthsOk}
 

@@ -7,7 +7,7 @@ use lib.ListN.{length, drop}
 use lib.Seq.{drop-drop}
 use Rattle.labels.specs.declared.Glyph.{Glyph}
 use Rattle.labels.specs.Group.{glyphRuns}
-use Rattle.lookup.specs.Rows.{glyphsIn}
+use Rattle.job_rows.specs.Rows.{glyphsIn}
 use Rattle.forming.specs.Groups.{glyphIn}
 use Rattle.forming.proofs.FirstRun.{runLength, runs-split}
 use Rattle.forming.proofs.Glyphs.{glyph-next, glyphs-end, glyphs-part, part-length}

@@ -11,7 +11,7 @@ use Rattle.labels.specs.Check.{unitsOk}
 use Rattle.labels.specs.Single.{_+ᶠ_, +0}
 use Rattle.labels.specs.Kind.{greatest, glyphAdvance, sumAdvance, maxAdvance}
 use Rattle.labels.specs.Cluster.{rounded}
-use Rattle.lookup.specs.Rows.{glyphsIn}
+use Rattle.job_rows.specs.Rows.{glyphsIn}
 use Rattle.forming.specs.Groups.{glyphIn, widthsOk}
 use Rattle.forming.proofs.Passing.{all-rest}
 use Rattle.forming.proofs.Glyphs.{glyph-next, glyphs-end}

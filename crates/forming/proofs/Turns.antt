@@ -16,7 +16,7 @@ use Rattle.labels.specs.Lists.{all}
 use Rattle.labels.specs.Group.{Group, chunkSpanAt, glyphRuns, coveredRuns, groups}
 use Rattle.clusters.specs.Clusters.{clustersOf, floatsOf, wordsOf, indexesIn}
 use Rattle.clusters.proofs.Rows.{clusters-push}
-use Rattle.lookup.specs.Rows.{spansIn, glyphsIn}
+use Rattle.job_rows.specs.Rows.{spansIn, glyphsIn}
 use Rattle.forming.specs.Groups.{glyphIn, groupIn, clustersIn}
 use Rattle.forming.proofs.Passing.{all-push}
 use Rattle.forming.proofs.FirstRun.{runLength}

@@ -8,7 +8,7 @@ use Rattle.labels.specs.Lists.{all}
 use Rattle.labels.specs.Check.{unitsOk}
 use Rattle.labels.specs.Decode.{glyphOf}
 use Rattle.labels.specs.Group.{Group, groups}
-use Rattle.lookup.specs.Rows.{spansIn, glyphsIn}
+use Rattle.job_rows.specs.Rows.{spansIn, glyphsIn}
 
 -- every width is within its bounds, as in a checked job
 abbrev pub widthsOk : List Glyph → Bool

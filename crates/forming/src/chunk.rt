@@ -14,7 +14,7 @@ ghost use Rattle.labels.specs.Lists.{all};
 ghost use Rattle.labels.specs.Group.{groups};
 ghost use Rattle.labels.specs.Cluster.{formGlyphClusters};
 ghost use Rattle.clusters.specs.Clusters.{clustersOf, indexesIn};
-ghost use Rattle.lookup.specs.Rows.{fontsIn, spansIn, glyphsIn};
+ghost use Rattle.job_rows.specs.Rows.{fontsIn, spansIn, glyphsIn};
 ghost use Rattle.forming.specs.Groups.{widthsOk, clustersIn};
 
 // Stores a cluster for each run that a span covers, from row 0 on; the result is how many.

@@ -1,13 +1,13 @@
 // One cluster, of the merged glyphs from one place to another.
 use crate::runs::place_in;
+use job_rows::numbered::font_in;
+use job_rows::numbered::size_in;
+use job_rows::numbered::units_in;
+use job_rows::rows::glyph_at;
 use labels::Cluster;
-use lookup::font_in;
-use lookup::size_in;
-use lookup::units_in;
 use measure::ascent;
 use measure::descent;
 use measure::measure_units;
-use parts::rows::glyph_at;
 use wire::read::i32_at;
 use wire::read::u8_at;
 ghost use mathlib.Core.Path.{_≡_};
@@ -19,7 +19,7 @@ ghost use Rattle.labels.specs.Decode.{glyphOf};
 ghost use Rattle.labels.specs.Single.{_+ᶠ_};
 ghost use Rattle.labels.specs.Kind.{greatest, glyphAdvance, sumAdvance, maxAdvance};
 ghost use Rattle.labels.specs.Cluster.{rounded, formGlyphClusters};
-ghost use Rattle.lookup.specs.Rows.{fontsIn, spansIn, glyphsIn};
+ghost use Rattle.job_rows.specs.Rows.{fontsIn, spansIn, glyphsIn};
 ghost use Rattle.forming.specs.Groups.{widthsOk, glyphIn, groupIn};
 
 // The advance of the glyph whose row stands at `at`, of its own font.

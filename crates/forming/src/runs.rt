@@ -1,11 +1,11 @@
 // Runs of neighbours of one byte index in a merged list (the Rust's `GlyphClusters`).
-use parts::rows::glyph_index_at;
+use job_rows::rows::glyph_index_at;
 ghost use mathlib.Core.Path.{_≡_};
 ghost use mathlib.Core.List.{[]};
 ghost use Prim.Native.Nat.{_+_, _<_, _≤_};
 ghost use lib.ListN.{length, getD, drop};
 ghost use Rattle.labels.specs.Group.{glyphRuns};
-ghost use Rattle.lookup.specs.Rows.{glyphsIn};
+ghost use Rattle.job_rows.specs.Rows.{glyphsIn};
 ghost use Rattle.forming.specs.Groups.{glyphIn};
 
 // Where the row of the glyph at place `i` stands.

@@ -6,7 +6,7 @@ ghost use lib.ListN.{drop};
 ghost use Rattle.labels.specs.Decode.{spanOf};
 ghost use Rattle.labels.specs.Merge.{spanContains};
 ghost use Rattle.labels.specs.Group.{chunkSpanAt};
-ghost use Rattle.lookup.specs.Rows.{spansIn};
+ghost use Rattle.job_rows.specs.Rows.{spansIn};
 
 // The span whose record stands at `at`.
 pub fn span_contains(s: &[u8], at: usize, index: usize) -> bool

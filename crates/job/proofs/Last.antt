@@ -6,7 +6,7 @@ use mathlib.Core.List.{List}
 use lib.ListN.{drop}
 use lib.Seq.{drop-drop}
 use Rattle.labels.specs.Bytes.{each}
-use Rattle.parts.proofs.Walks.{each-on, each-done}
+use Rattle.job_rows.proofs.Walks.{each-on, each-done}
 
 -- a walk over a slice s stands at p; `row` is what follows there, and the record there is the last
 pub each-last : (size : List ℕ → ℕ) (s row : List ℕ) (p n : ℕ) → row ≡ drop p s → 0 < n → (ok : List ℕ → Bool) (t : Bool) → t ≡ ok row → not t ≡ false → n - 1 ≤ 0

@@ -10,7 +10,7 @@ use Rattle.labels.specs.Bytes.{be, rows}
 use Rattle.labels.specs.Job.{SpanParts}
 use Rattle.labels.specs.Decode.{spanSize, spanOf, partsOf, spanCount, spanBytes, chunkOf}
 use Rattle.labels.specs.Check.{ordered, spansOk}
-use Rattle.parts.proofs.Walks.{rows-turn, rows-done}
+use Rattle.job_rows.proofs.Walks.{rows-turn, rows-done}
 
 -- a span from `start` to `end` stands behind `from`, in a text of n bytes
 abbrev pub inOrder : ℕ → ℕ → ℕ → ℕ → Bool

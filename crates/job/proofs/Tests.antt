@@ -16,10 +16,10 @@ use Rattle.laws.proofs.Records.{length-rows}
 use Rattle.job.specs.Walk.{indexOk, spanPasses, chunkPasses, countsFit, listsOk}
 use Rattle.job.specs.Answer.{placesOf}
 use Rattle.job.proofs.Places.{behind-version}
-use Rattle.parts.specs.Head.{headOf}
+use Rattle.job_rows.specs.Head.{headOf}
 use Rattle.job.specs.declared.walk.SpanCheck.the-variants as S
 use Rattle.job.specs.declared.walk.ChunkCheck.the-variants as C
-use Rattle.parts.proofs.Walks.{all-each, rows-empty}
+use Rattle.job_rows.proofs.Walks.{all-each, rows-empty}
 
 pub list-test : (bs : List ℕ) → all floatOk (listOf bs) ≡ each (λ b. floatSize) (λ b. floatOk (float b)) (be 2 bs) (drop 2 bs)
 unfolding listOf

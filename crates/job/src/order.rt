@@ -1,8 +1,8 @@
 // Check 6: the spans of a chunk stand in order inside its text.
-use parts::sizes::span_bytes;
-use parts::sizes::span_count;
-use parts::sizes::span_size;
-use parts::sizes::text_of;
+use job_rows::sizes::span_bytes;
+use job_rows::sizes::span_count;
+use job_rows::sizes::span_size;
+use job_rows::sizes::text_of;
 use wire::place::after;
 use wire::place::from;
 use wire::read::u16_at;

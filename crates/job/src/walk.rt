@@ -1,8 +1,8 @@
 // Walks over rows, spans and chunks that stand one after the other: whether each passes a test. A walk ends at the first that does not.
-use parts::sizes::FLOAT_SIZE;
-use parts::sizes::FONT_BYTES;
-use parts::sizes::GLYPH_BYTES;
-use parts::sizes::SHIFT_BYTES;
+use job_rows::sizes::FLOAT_SIZE;
+use job_rows::sizes::FONT_BYTES;
+use job_rows::sizes::GLYPH_BYTES;
+use job_rows::sizes::SHIFT_BYTES;
 use wire::place::after;
 use wire::place::from;
 use wire::read::f32_at;
@@ -52,20 +52,20 @@ fn glyph_row_ok(fonts: usize, s: &[u8], at: usize) -> bool
 {
     let row = from(s, at);
     if GLYPH_BYTES <= row.len() {
-        return fields::glyph_ok(fonts, parts::rows::glyph_of(row));
+        return fields::glyph_ok(fonts, job_rows::rows::glyph_of(row));
     }
-    fields::glyph_ok(fonts, parts::rows::glyph_at(s, at))
+    fields::glyph_ok(fonts, job_rows::rows::glyph_at(s, at))
 }
 
 pub fn row_ok(kind: RowKind, fonts: usize, s: &[u8], at: usize) -> bool
     ensures { λ r. ⌜ r ≡ rowOk kind fonts (drop at (now (s .entry))) ⌝ }
 {
     match kind {
-        RowKind::Font => fields::font_ok(parts::rows::font_at(s, at)),
+        RowKind::Font => fields::font_ok(job_rows::rows::font_at(s, at)),
         RowKind::Float => fields::float_ok(f32_at(s, at)),
         RowKind::Shift => {
-            let number = parts::rows::shift_number_at(s, at);
-            fields::shift_ok(parts::rows::shift_kind_at(s, at), number)
+            let number = job_rows::rows::shift_number_at(s, at);
+            fields::shift_ok(job_rows::rows::shift_kind_at(s, at), number)
         }
         RowKind::Glyph => glyph_row_ok(fonts, s, at),
     }
@@ -110,7 +110,7 @@ pub fn spans_pass(check: SpanCheck, fonts: usize, text: &[u8], spans: &[u8], n: 
         }
         left -= 1;
         if 0 < left {
-            p = after(spans, p, parts::sizes::span_size(span));
+            p = after(spans, p, job_rows::sizes::span_size(span));
         }
     }
     true
@@ -139,7 +139,7 @@ pub fn chunks_pass(check: ChunkCheck, fonts: usize, chunks: &[u8], n: usize) -> 
         }
         left -= 1;
         if 0 < left {
-            p = after(chunks, p, parts::sizes::chunk_size(chunk));
+            p = after(chunks, p, job_rows::sizes::chunk_size(chunk));
         }
     }
     true

@@ -10,9 +10,9 @@ use Rattle.labels.specs.declared.Cluster.{Cluster}
 use Rattle.labels.specs.Job as definitions
 use Rattle.labels.specs.Position.{logicalOrder}
 use Rattle.labels.specs.Layout.{adjustedClusters, placeChunk}
-use Rattle.lookup.specs.Rows.{fontsIn, spansIn}
+use Rattle.job_rows.specs.Rows.{fontsIn, spansIn}
 use Rattle.clusters.specs.Clusters.{indexesIn}
-use Rattle.sorting.specs.Sorted.{keyOf}
+use Rattle.text_order.specs.Keys.{keyOf}
 use Rattle.job.specs.Answer.{placesOf}
 use Rattle.chunk.specs.declared.Formed.{Formed}
 use Rattle.chunk.specs.declared.Formed.the-variants as F

@@ -14,7 +14,7 @@ use Rattle.labels.specs.Job.{SpanParts, spansOf}
 use Rattle.labels.specs.Decode.{partsOf}
 use Rattle.labels.specs.Check.{glyphOk, unitsOk}
 use Rattle.labels.specs.Merge.{mergeGlyphs}
-use Rattle.lookup.specs.Rows.{partsIn, spansIn, glyphsIn}
+use Rattle.job_rows.specs.Rows.{partsIn, spansIn, glyphsIn}
 use Rattle.forming.specs.Groups.{widthsOk}
 use Rattle.laid_chunk.specs.declared.progress.Reached.{Reached}
 use Rattle.laid_chunk.specs.Checked.{CheckedChunk, SpanPlaces, MergedRows, Writable, Small, Begun}

@@ -13,7 +13,7 @@ use Rattle.labels.specs.Job.{SpanParts}
 use Rattle.labels.specs.Decode.{glyphBytes, glyphOf, glyphCount, partsOf}
 use Rattle.labels.specs.Merge.{mergeGlyphs}
 use Rattle.labels.specs.Layout.{layoutChunk}
-use Rattle.lookup.specs.Rows.{partsIn, glyphsIn}
+use Rattle.job_rows.specs.Rows.{partsIn, glyphsIn}
 use Rattle.merge.specs.declared.Merge.{Merge}
 use Rattle.merge.specs.declared.Merge.the-variants as M
 use Rattle.merge.specs.Merged.{mergedOf, Held, FewGlyphs}

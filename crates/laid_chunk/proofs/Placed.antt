@@ -15,7 +15,7 @@ use Rattle.labels.specs.Utf8.{characters}
 use Rattle.labels.specs.Answer.{ChunkRow, chunkHeadSize, chunkRowBytes, chunkRowLength}
 use Rattle.laws.proofs.AnswerLength.{length-chunkRow}
 use Rattle.labels.specs.Layout.{Progress, rowsOf, clusterRow, spanRows, originOf, penAfter, placeChunk, resolveClustersPositionsHorizontal}
-use Rattle.lookup.specs.Rows.{partsIn}
+use Rattle.job_rows.specs.Rows.{partsIn}
 use Rattle.clusters.specs.Clusters.{clustersOf}
 use Rattle.position.specs.declared.Positioned.{Positioned}
 use Rattle.position.specs.Given.{Placed}

@@ -7,10 +7,10 @@ use Rattle.labels.specs.declared.Job.{Job}
 use Rattle.labels.specs.Bytes.{rows, be}
 use Rattle.labels.specs.Decode.{fontBytes, fontOf, fontCount, dxAt, dyAt, rotateAt, chunksAt, listOf, chunkCountBytes, chunkCount, jobOf, chunkOf}
 use Rattle.labels.specs.Check.{afterVersion}
-use Rattle.lookup.specs.Rows.{fontsIn}
+use Rattle.job_rows.specs.Rows.{fontsIn}
 use Rattle.job.specs.Answer.{placesOf}
 use Rattle.job.proofs.Places.{behind-version}
-use Rattle.parts.specs.Head.{headOf}
+use Rattle.job_rows.specs.Head.{headOf}
 use Rattle.laid_chunk.specs.Steps.{jobIn, chunkIn}
 
 pub anchor-is : (s : List ℕ) (at : ℕ) → chunkIn s at .anchor ≡ headOf (drop at s) .anchor

@@ -20,7 +20,7 @@ use Rattle.laws.proofs.IfGiven.{of-given}
 use Rattle.laws.proofs.GlyphsShared.{Shared, adjusted-share}
 use Rattle.laws.proofs.RowSize.{placed-sized}
 use Rattle.laws.proofs.AnswerLength.{length-chunkRow}
-use Rattle.lookup.specs.Rows.{fontsIn, glyphsIn, partsIn}
+use Rattle.job_rows.specs.Rows.{fontsIn, glyphsIn, partsIn}
 use Rattle.wire.specs.Splice.{splice}
 use Rattle.forming.proofs.Glyphs.{glyphs-length}
 use Rattle.job.specs.Answer.{placesOf}

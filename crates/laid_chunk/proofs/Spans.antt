@@ -12,7 +12,7 @@ use Rattle.labels.specs.declared.Job.{Job}
 use Rattle.labels.specs.Job.{limits}
 use Rattle.labels.specs.Bytes.{rows}
 use Rattle.labels.specs.Decode.{spanSize, partsOf, spansAt, spanCount, spanBytes, chunkFits, chunkOf}
-use Rattle.lookup.specs.Rows.{partsIn}
+use Rattle.job_rows.specs.Rows.{partsIn}
 use Rattle.laid_chunk.specs.Checked.{CheckedChunk, SpanPlaces}
 
 -- the first n places of a list are lent

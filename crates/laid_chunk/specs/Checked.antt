@@ -11,7 +11,7 @@ use Rattle.labels.specs.Job.{limits}
 use Rattle.labels.specs.Decode.{chunkFits, chunkOf}
 use Rattle.labels.specs.Check.{chunkOk, spansOk}
 use Rattle.labels.specs.Merge.{mergeGlyphs}
-use Rattle.lookup.specs.Rows.{partsIn, glyphsIn}
+use Rattle.job_rows.specs.Rows.{partsIn, glyphsIn}
 use Rattle.job.specs.Answer.{placesOf}
 use Rattle.answer.specs.Glyphs.{unitsIn}
 use Rattle.laid_chunk.specs.declared.progress.Reached.{Reached}

@@ -14,7 +14,7 @@ use Rattle.labels.specs.Check.{afterVersion}
 use Rattle.labels.specs.Answer.{ChunkRow, chunkRowBytes}
 use Rattle.labels.specs.declared.Point.{Point}
 use Rattle.labels.specs.Layout.{Progress, rowsOf, clusterRow, spanRows, adjustedClusters, placeChunk}
-use Rattle.lookup.specs.Rows.{partsIn}
+use Rattle.job_rows.specs.Rows.{partsIn}
 use Rattle.wire.specs.Splice.{splice}
 use Rattle.laid_chunk.specs.declared.progress.Reached.{Reached}
 use Rattle.laid_chunk.specs.declared.progress.Laid.{Laid}

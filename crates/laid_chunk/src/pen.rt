@@ -1,7 +1,7 @@
 // The pen: where a chunk begins, and where it leaves off.
+use job_rows::sizes::CHUNK_X_AT;
+use job_rows::sizes::CHUNK_Y_AT;
 use labels::Point;
-use parts::sizes::CHUNK_X_AT;
-use parts::sizes::CHUNK_Y_AT;
 use spacing::mode::TOP_TO_BOTTOM;
 use wire::place::from;
 use wire::read::f32_at;

@@ -8,7 +8,7 @@ use chunk::adjusted_clusters;
 use labels::Job;
 ghost use Prim.Native.Nat.{_≤_};
 ghost use lib.ListN.{length};
-ghost use Rattle.lookup.specs.Rows.{glyphsIn};
+ghost use Rattle.job_rows.specs.Rows.{glyphsIn};
 ghost use Rattle.forming.specs.Groups.{clustersIn};
 ghost use Rattle.laid_chunk.specs.Steps.{jobIn, chunkIn, progressOf, laidMerged, LaidBehind};
 ghost use Rattle.laid_chunk.specs.Checked.{CheckedChunk, SpanPlaces, MergedRows, Small};

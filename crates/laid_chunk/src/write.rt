@@ -7,7 +7,7 @@ use labels::Point;
 ghost use Prim.Native.Nat.{_≤_};
 ghost use lib.ListN.{length};
 ghost use Rattle.labels.specs.Answer.{chunkRowBytes};
-ghost use Rattle.lookup.specs.Rows.{glyphsIn};
+ghost use Rattle.job_rows.specs.Rows.{glyphsIn};
 ghost use Rattle.clusters.specs.Clusters.{clustersOf};
 ghost use Rattle.answer.specs.Chunks.{chunkRowMost};
 ghost use Rattle.laid_chunk.specs.Steps.{chunkRowIn, RowWritten};

@@ -69,6 +69,12 @@ module _ {A : Type 0} {P : A → Type 0} where
   all-getD zero d q (All.more p ps) = p
   all-getD (suc i) d q (All.more p ps) = all-getD i d q ps
 
+  -- of a place inside the list
+  pub all-here : {xs : List A} (i : ℕ) (d : A) → All P xs → i < length xs → P (getD xs i d)
+  all-here i d All.none h = absurd (not-suc-le-zero h)
+  all-here zero d (All.more p ps) h = p
+  all-here (suc i) d (All.more p ps) h = all-here i d ps (le-of-suc-le-suc h)
+
   -- an element set anew, and each of them
   pub all-modify : (f : A → A) → ((x : A) → P x → P (f x)) → {xs : List A} → All P xs → (i : ℕ) → All P (modify f xs i)
   unfolding modify

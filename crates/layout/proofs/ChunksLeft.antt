@@ -24,7 +24,7 @@ use Rattle.labels.specs.Check.{afterVersion, chunkOk, spansOk}
 use Rattle.labels.specs.Answer.{answerHeadSize}
 use Rattle.labels.specs.Layout.{Progress, beginning, layoutChunk}
 use Rattle.job.specs.Answer.{placesOf}
-use Rattle.parts.proofs.Walks.{rows-turn, rows-done}
+use Rattle.job_rows.proofs.Walks.{rows-turn, rows-done}
 use Rattle.wire.proofs.Splice.{splice-none}
 use Rattle.laid_chunk.specs.declared.progress.Reached.{Reached}
 use Rattle.laid_chunk.specs.declared.progress.Laid.{Laid}

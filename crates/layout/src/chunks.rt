@@ -1,12 +1,12 @@
 // The chunks of a checked job, laid out in order.
 use answer::sizes::ANSWER_HEAD_BYTES;
+use job_rows::sizes::CHUNK_COUNT_BYTES;
+use job_rows::sizes::chunk_size;
 use labels::Job;
 use labels::Point;
 use laid_chunk::merged::layout_chunk;
 use laid_chunk::progress::Laid;
 use laid_chunk::progress::Reached;
-use parts::sizes::CHUNK_COUNT_BYTES;
-use parts::sizes::chunk_size;
 use wire::place::after;
 use wire::place::from;
 use wire::read::u8_at;

@@ -14,11 +14,12 @@ use Rattle.labels.specs.Merge.{spanContains}
 use Rattle.labels.specs.Position.{entries, logicalOrder}
 use Rattle.labels.specs.Looked.{highest, bytesLooked}
 use Rattle.laws.proofs.All.{All, first, rest, all-weaken}
-use Rattle.sorting.specs.Sorted.{insertKey, sorted, keyOf, keysOf}
+use Rattle.sorting.specs.Sorted.{insertKey, sorted}
+use Rattle.text_order.specs.Keys.{keyOf, keysOf}
 use Rattle.sorting.proofs.Cases.{in-order}
 use Rattle.sorting.proofs.Insertion.{insert-past, insert-here}
 use Rattle.sorting.proofs.Ascending.{Ascends, drop-ascends}
-use Rattle.sorting.proofs.TextKeys.{order-keys}
+use Rattle.text_order.proofs.TextKeys.{order-keys}
 use Rattle.length_adjust.specs.Marks.{below, ownKeys, bytesTo}
 use Rattle.length_adjust.proofs.Passed.{below-stop, below-on, not-below}
 

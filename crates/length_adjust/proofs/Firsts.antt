@@ -11,7 +11,8 @@ use borrow.Author.Tests.{eq-eqb, ne-eqb, le-leb, lt-leb}
 use Rattle.labels.specs.Lists.{findIdx}
 use Rattle.labels.specs.Position.{entries}
 use Rattle.laws.proofs.All.{All, all-weaken}
-use Rattle.sorting.specs.Sorted.{insertKey, sorted, keyOf, keysOf}
+use Rattle.sorting.specs.Sorted.{insertKey, sorted}
+use Rattle.text_order.specs.Keys.{keyOf, keysOf}
 use Rattle.sorting.proofs.Cases.{in-order}
 use Rattle.sorting.proofs.Insertion.{insert-nil, insert-past, insert-here, all-sorted}
 use Rattle.sorting.proofs.Ascending.{Ascends, sorted-ascends, drop-ascends}

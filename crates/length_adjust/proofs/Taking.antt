@@ -16,11 +16,12 @@ use Rattle.labels.specs.LengthAdjust.{placesFrom}
 use Rattle.labels.specs.Looked.{bytesLooked}
 use Rattle.laws.proofs.All.{All, all-weaken, all-true}
 use Rattle.clusters.specs.Clusters.{indexesIn}
-use Rattle.sorting.specs.Sorted.{ascending, keyOf, keysOf}
+use Rattle.sorting.specs.Sorted.{ascending}
+use Rattle.text_order.specs.Keys.{keyOf, keysOf}
 use Rattle.sorting.proofs.Cases.{in-order}
 use Rattle.sorting.proofs.Insertion.{all-sorted}
 use Rattle.sorting.proofs.Ascending.{sorted-ascends, ascending-of-ascends}
-use Rattle.sorting.proofs.TextKeys.{order-keys}
+use Rattle.text_order.proofs.TextKeys.{order-keys}
 use Rattle.length_adjust.specs.Marks.{markedFrom, marked, mark, takingPart}
 use Rattle.length_adjust.proofs.Cases.{same-or-not}
 use Rattle.length_adjust.proofs.Firsts.{upFrom, found-places}

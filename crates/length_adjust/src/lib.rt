@@ -9,8 +9,8 @@ pub mod walk;
 use crate::find::mark_span;
 use crate::glyphs::adjust_glyphs;
 use crate::spacing::adjust_spacing;
+use job_rows::numbered::span_in;
 use labels::Span;
-use lookup::span_in;
 ghost use mathlib.Core.Path.{_≡_};
 ghost use Prim.Native.Nat.{_≤_, _<_};
 ghost use mathlib.Core.List.{map};
@@ -20,8 +20,8 @@ ghost use Rattle.labels.specs.Position.{logicalOrder};
 ghost use Rattle.labels.specs.Cluster.{adjustSpan, applyLengthAdjust};
 ghost use Rattle.labels.specs.Looked.{spanLooked, spansLooked};
 ghost use Rattle.clusters.specs.Clusters.{clustersOf, indexesIn};
-ghost use Rattle.lookup.specs.Rows.{spansIn};
-ghost use Rattle.sorting.specs.Sorted.{keyOf};
+ghost use Rattle.job_rows.specs.Rows.{spansIn};
+ghost use Rattle.text_order.specs.Keys.{keyOf};
 ghost use Rattle.length_adjust.specs.Answer.{adjustedOf};
 
 // The clusters are adjusted, or the job is refused with this number.

@@ -8,7 +8,7 @@ use native.Mathlib.Omega.{arith}
 use lib.ListN.{length, take, drop, getD, set, length-take, length-map, drop-of-length-le}
 use lib.Seq.{take-suc-set, drop-cons, drop-drop, take-set-lt, drop-set-lt, getD-take, append-snoc, take-take}
 use Rattle.labels.specs.Bytes.{rows}
-use Rattle.parts.proofs.Walks.{rows-turn, rows-done}
+use Rattle.job_rows.proofs.Walks.{rows-turn, rows-done}
 use Rattle.labels.specs.declared.Glyph.{Glyph}
 use Rattle.labels.specs.Decode.{glyphOf, glyphBytes}
 use Rattle.labels.specs.Merge.{inserted, removed}

@@ -15,7 +15,7 @@ use Rattle.labels.specs.Decode.{glyphOf, glyphBytes, glyphsAt, glyphCount, span
 use Rattle.labels.specs.Merge.{merging, mergeGlyph, mergeDone, mergeSpan, mergeGlyphs}
 use Rattle.laws.proofs.All.{All, first, rest}
 use Rattle.laws.proofs.Records.{length-rows}
-use Rattle.lookup.specs.Rows.{partsIn}
+use Rattle.job_rows.specs.Rows.{partsIn}
 use Rattle.merge.specs.Merged.{glyphsIn, FewGlyphs}
 use Rattle.merge.proofs.Moved.{glyphs-count}
 

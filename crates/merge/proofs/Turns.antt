@@ -10,7 +10,7 @@ use Rattle.labels.specs.declared.Glyph.{Glyph}
 use Rattle.labels.specs.declared.Span.{Span}
 use Rattle.labels.specs.Decode.{glyphOf, glyphBytes}
 use Rattle.labels.specs.Merge.{Merging, halted, merging, mergeGlyph, mergeDone}
-use Rattle.parts.proofs.Walks.{rows-turn, rows-done}
+use Rattle.job_rows.proofs.Walks.{rows-turn, rows-done}
 use Rattle.merge.specs.Merged.{glyphsIn}
 use Rattle.merge.specs.Steps.{mergingOf, Marked, Stands}
 use Rattle.merge.specs.declared.step.Progress.{Progress}

@@ -2,7 +2,7 @@
 use Prim.Native.Nat.{ℕ, _≤_}
 use mathlib.Core.List.{List, [], foldl}
 use lib.ListN.{length, drop}
-unfoldable pub use Rattle.lookup.specs.Rows.{glyphsIn}
+unfoldable pub use Rattle.job_rows.specs.Rows.{glyphsIn}
 use Rattle.labels.specs.Outcome.{Outcome, refused, given}
 use Rattle.labels.specs.Bytes.{rows as records}
 use Rattle.labels.specs.declared.Glyph.{Glyph}

@@ -8,7 +8,7 @@ use mathlib.Core.List.{List, [], _∷_, map}
 use lib.ListN.{length, getD, set, take, length-take}
 use lib.Seq.{getD-take, take-set-lt, map-set-same}
 use lib.Ieee.{Float, ne}
-use Rattle.lookup.proofs.Rows.{map-in}
+use Rattle.job_rows.proofs.ByNumber.{map-in}
 use Rattle.labels.specs.declared.Cluster.{Cluster}
 use Rattle.labels.specs.Lists.{scan}
 use Rattle.labels.specs.Single.{+0, isZero}

@@ -8,10 +8,10 @@ use lib.ListN.{length, getD, take, drop, length-append, length-map, take-append-
 use lib.Seq.{append-snoc, drop-cons, getD-at, getD-take, length-take-le}
 use lib.Dec.{leb}
 use Rattle.laws.proofs.All.{All, first, all-drop, cond-keeps}
-use Rattle.lookup.proofs.Rows.{map-in}
+use Rattle.job_rows.proofs.ByNumber.{map-in}
 use Rattle.labels.specs.Position.{Entry, entries, insert, logicalOrder, firstPlace, lastPlace, characterNumber}
 use Rattle.clusters.specs.Clusters.{indexesIn}
-use Rattle.sorting.specs.Sorted.{keyOf}
+use Rattle.text_order.specs.Keys.{keyOf}
 use Rattle.position.specs.Given.{Ordered, Numbered}
 
 -- ---- each entry of the order stands for a byte index of the list

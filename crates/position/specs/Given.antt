@@ -8,7 +8,7 @@ use Rattle.labels.specs.declared.Cluster.{Cluster}
 use Rattle.labels.specs.Position as labels
 use Rattle.labels.specs.Position.{logicalOrder, characterNumber}
 use Rattle.clusters.specs.Clusters.{indexesIn}
-use Rattle.sorting.specs.Sorted.{keyOf}
+use Rattle.text_order.specs.Keys.{keyOf}
 use Rattle.position.specs.declared.Extent.{Extent}
 use Rattle.position.specs.declared.Positioned.{Positioned}
 

@@ -2,8 +2,8 @@
 use crate::order::number_at;
 use clusters::cluster_at;
 use clusters::put_cluster;
+use job_rows::numbered::float_in;
 use labels::Cluster;
-use lookup::float_in;
 ghost use mathlib.Core.Path.{_≡_};
 ghost use mathlib.Core.Bool.{_||_};
 ghost use mathlib.Core.List.{List};

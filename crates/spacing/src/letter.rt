@@ -12,7 +12,7 @@ ghost use Prim.Native.Nat.{_≤_};
 ghost use lib.ListN.{length};
 ghost use Rattle.labels.specs.Cluster.{rounded};
 ghost use Rattle.labels.specs.Spacing.{settled, letterSpaced, nextLetterSpaced, applyLetterSpacing};
-ghost use Rattle.lookup.specs.Rows.{spansIn};
+ghost use Rattle.job_rows.specs.Rows.{spansIn};
 ghost use Rattle.clusters.specs.Clusters.{clustersOf};
 
 // A cluster whose advance is not above 0 loses its width, its advance and its glyphs.

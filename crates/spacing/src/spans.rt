@@ -10,7 +10,7 @@ ghost use Rattle.labels.specs.declared.Span.{Span};
 ghost use Rattle.labels.specs.Job.{spanAt};
 ghost use Rattle.labels.specs.Decode.{spanOf};
 ghost use Rattle.labels.specs.Cluster.{rounded};
-ghost use Rattle.lookup.specs.Rows.{spansIn};
+ghost use Rattle.job_rows.specs.Rows.{spansIn};
 ghost use Rattle.spacing.specs.Spans.{spacingOf};
 
 pub enum Spacing {

@@ -12,7 +12,7 @@ ghost use Prim.Native.Nat.{_≤_};
 ghost use lib.ListN.{length};
 ghost use Rattle.labels.specs.Cluster.{rounded};
 ghost use Rattle.labels.specs.Spacing.{wordSpaced, applyWordSpacing};
-ghost use Rattle.lookup.specs.Rows.{spansIn};
+ghost use Rattle.job_rows.specs.Rows.{spansIn};
 ghost use Rattle.clusters.specs.Clusters.{clustersOf};
 
 // The cluster with its spacing, if its character separates words.

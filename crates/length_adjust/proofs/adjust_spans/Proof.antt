@@ -10,7 +10,7 @@ use Rattle.labels.proofs.Loops.{fold-turn, fold-done}
 use Rattle.labels.specs.Cluster.{adjustSpan, applyLengthAdjust}
 use Rattle.labels.specs.Looked.{spanLooked, spansLooked}
 use Rattle.clusters.specs.Clusters.{clustersOf, indexesIn}
-use Rattle.lookup.specs.Rows.{spansIn}
+use Rattle.job_rows.specs.Rows.{spansIn}
 use Rattle.length_adjust.specs.Answer.{adjustedOf}
 use Rattle.length_adjust.proofs.Kept.{span-order, refused-stays, looked-turn, looked-done, refused-looks}
 use borrow.Author.Needs.{needs}

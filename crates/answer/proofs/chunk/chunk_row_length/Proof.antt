@@ -2,7 +2,7 @@
 use mathlib.Core.Path.{refl}
 use native.Mathlib.Omega.{arith}
 use lib.ListN.{length}
-use Rattle.lookup.specs.Rows.{partsIn}
+use Rattle.job_rows.specs.Rows.{partsIn}
 use Rattle.clusters.specs.Clusters.{clustersOf}
 use Rattle.answer.proofs.ChunkRows.{chunk-size}
 use Rattle.answer.proofs.Most.{clusters-most, spans-most}

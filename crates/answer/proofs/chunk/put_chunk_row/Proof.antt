@@ -9,7 +9,7 @@ use Rattle.labels.specs.declared.Cluster.{Cluster}
 use Rattle.labels.specs.Answer.{ChunkRow, chunkHeadSize, clusterRowBytes, spanRowBytes, spanRowLength, chunkRowBytes, chunkRowLength, sum}
 use Rattle.labels.specs.Layout.{clusterRow}
 use Rattle.laws.proofs.AnswerLength.{length-chunkRow}
-use Rattle.lookup.specs.Rows.{fontsIn, glyphsIn, partsIn}
+use Rattle.job_rows.specs.Rows.{fontsIn, glyphsIn, partsIn}
 use Rattle.clusters.specs.Clusters.{clustersOf}
 use Rattle.clusters.proofs.Rows.{clusters-length}
 use Rattle.forming.proofs.Glyphs.{glyphs-length}

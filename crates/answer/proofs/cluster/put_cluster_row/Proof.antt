@@ -9,7 +9,7 @@ use Rattle.labels.specs.Single.{+0}
 use Rattle.labels.specs.Answer.{glyphRowBytes, clusterRowBytes, clusterRowSize, clusterRowLength}
 use Rattle.labels.specs.Layout.{glyphRows, clusterRow}
 use Rattle.laws.proofs.AnswerLength.{length-clusterRow}
-use Rattle.lookup.specs.Rows.{glyphsIn}
+use Rattle.job_rows.specs.Rows.{glyphsIn}
 use Rattle.clusters.specs.Clusters.{clusterOf}
 use Rattle.answer.specs.Clusters.{clusterHeadBytes}
 use Rattle.answer.proofs.ClusterRows.{places-ok, row-parts, length-head, row-of-places}

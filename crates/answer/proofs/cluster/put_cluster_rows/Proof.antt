@@ -4,7 +4,7 @@ use mathlib.Core.Path.{refl, _∙_, ap}
 use mathlib.Core.List.{[]}
 use lib.ListN.{getD}
 use native.Mathlib.Omega.{arith}
-use Rattle.lookup.specs.Rows.{glyphsIn}
+use Rattle.job_rows.specs.Rows.{glyphsIn}
 use Rattle.clusters.specs.Clusters.{clusterOf, clustersOf}
 use Rattle.forming.proofs.Glyphs.{glyphs-length}
 use Rattle.answer.proofs.ClusterRows.{ClustersLeft, length-rows, cluster-room, cluster-turn, clusters-done}

@@ -7,7 +7,7 @@ use lib.ListN.{length, drop}
 use native.Mathlib.Nat.{le-refl}
 use Rattle.labels.specs.Single.{+0}
 use Rattle.forming.proofs.Glyphs.{glyphs-length, glyphs-end}
-use Rattle.lookup.specs.Rows.{glyphsIn}
+use Rattle.job_rows.specs.Rows.{glyphsIn}
 use Rattle.answer.specs.Glyphs.{unitsIn}
 use Rattle.answer.proofs.GlyphsLeft.{GlyphsLeft, first-ok, rest-ok, glyph-here, length-glyphRows, glyph-room, glyph-turn, glyphs-done}
 use Rattle.answer.proofs.Puts.{put-start}

@@ -5,7 +5,7 @@ use lib.ListN.{drop}
 use Rattle.labels.specs.Decode.{partsOf}
 use Rattle.wire.specs.Splice.{splice}
 use Rattle.wire.proofs.Splice.{splice-none}
-use Rattle.lookup.specs.Rows.{fontsIn}
+use Rattle.job_rows.specs.Rows.{fontsIn}
 use Rattle.clusters.specs.Clusters.{clustersOf}
 use Rattle.answer.specs.Spans.{jobWith}
 use Rattle.answer.proofs.SpanRows.{one-bytes, one-sum, no-bytes, no-sum}

@@ -4,7 +4,7 @@ use native.Mathlib.Omega.{arith}
 use lib.ListN.{drop}
 use Rattle.labels.specs.Decode.{partsOf}
 use Rattle.labels.specs.Layout.{spanRow}
-use Rattle.lookup.specs.Rows.{fontsIn}
+use Rattle.job_rows.specs.Rows.{fontsIn}
 use Rattle.clusters.specs.Clusters.{clustersOf}
 use Rattle.answer.specs.Spans.{jobWith}
 use Rattle.answer.proofs.SpanRows.{row-put, row-runs}

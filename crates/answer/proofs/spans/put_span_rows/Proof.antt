@@ -6,7 +6,7 @@ use native.Mathlib.Omega.{arith}
 use lib.ListN.{length}
 use Rattle.labels.specs.Answer.{spanRowBytes}
 use Rattle.labels.specs.Layout.{spanRows}
-use Rattle.lookup.specs.Rows.{fontsIn, partsIn}
+use Rattle.job_rows.specs.Rows.{fontsIn, partsIn}
 use Rattle.clusters.specs.Clusters.{clustersOf}
 use Rattle.answer.specs.Spans.{jobWith}
 use Rattle.answer.proofs.Puts.{Putting, put-start, put-room, put-turn, put-done}

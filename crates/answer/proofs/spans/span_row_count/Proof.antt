@@ -8,7 +8,7 @@ use Rattle.labels.specs.declared.Point.{Point}
 use Rattle.labels.specs.declared.Cluster.{Cluster}
 use Rattle.labels.specs.Job.{Job}
 use Rattle.labels.specs.Layout.{spanRows}
-use Rattle.lookup.specs.Rows.{partsIn}
+use Rattle.job_rows.specs.Rows.{partsIn}
 use Rattle.answer.proofs.SpanRows.{rowsFrom, count-turn, count-done}
 use borrow.Author.Needs.{needs}
 use Rattle.answer.proofs.spans.span_row_count.Statement.{statement}

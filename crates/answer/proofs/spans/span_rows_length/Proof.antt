@@ -8,7 +8,7 @@ use Rattle.labels.specs.declared.Point.{Point}
 use Rattle.labels.specs.Job.{Job}
 use Rattle.labels.specs.Answer.{spanRowSize, spanRowLength, sum}
 use Rattle.labels.specs.Layout.{spanRows}
-use Rattle.lookup.specs.Rows.{partsIn}
+use Rattle.job_rows.specs.Rows.{partsIn}
 use Rattle.clusters.specs.Clusters.{clustersOf}
 use Rattle.answer.proofs.SpanRows.{rowsFrom, sum-turn, sum-done}
 use Rattle.answer.proofs.Most.{spans-most}

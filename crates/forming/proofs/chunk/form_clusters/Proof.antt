@@ -11,7 +11,7 @@ use Rattle.labels.specs.Lists.{all}
 use Rattle.labels.specs.Group.{groups}
 use Rattle.labels.specs.Cluster.{formGlyphClusters}
 use Rattle.clusters.specs.Clusters.{indexesIn}
-use Rattle.lookup.specs.Rows.{fontsIn, spansIn, glyphsIn}
+use Rattle.job_rows.specs.Rows.{fontsIn, spansIn, glyphsIn}
 use Rattle.forming.proofs.Glyphs.{widths-part}
 use Rattle.forming.proofs.Turns.{groupsFrom, Counted, Run, groups-start, groups-end, groups-kept, groups-passed, groups-room, groups-turn, groups-all, formed, formed-none, formed-all, formed-turn, indexes-none, indexes-turn}
 use borrow.Author.Needs.{needs}

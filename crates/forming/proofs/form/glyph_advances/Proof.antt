@@ -1,7 +1,7 @@
 -- `forming::form::glyph_advances` meets its contract: what comes of the sum and of the largest so far, with the glyphs that are left. Assumes nothing.
 use native.Mathlib.Omega.{arith}
 use Prim.Native.Nat.{_-_}
-use Rattle.lookup.specs.Rows.{fontsIn}
+use Rattle.job_rows.specs.Rows.{fontsIn}
 use Rattle.forming.proofs.Glyphs.{width-next}
 use Rattle.forming.proofs.Sums.{Left, left-all, left-next, left-none}
 use borrow.Author.Needs.{needs}

@@ -3,7 +3,7 @@ use native.Mathlib.Omega.{arith}
 use Prim.Native.Nat.{_+_, _-_, _≤_, _<_}
 use mathlib.Core.Path.{_≡_, sym, _∙_}
 use lib.ListN.{length, drop}
-use Rattle.lookup.specs.Rows.{glyphsIn}
+use Rattle.job_rows.specs.Rows.{glyphsIn}
 use Rattle.forming.specs.Groups.{glyphIn}
 use Rattle.forming.proofs.Search.{foundFrom, find-here, find-on, find-end}
 use Rattle.forming.proofs.Glyphs.{glyph-next, glyphs-length}

@@ -6,7 +6,7 @@ use lib.ListN.{length}
 use Rattle.labels.specs.declared.Span.{Span}
 use Rattle.labels.specs.Merge.{spanContains}
 use Rattle.labels.specs.Group.{chunkSpanAt}
-use Rattle.lookup.specs.Rows.{spansIn}
+use Rattle.job_rows.specs.Rows.{spansIn}
 use Rattle.forming.proofs.Search.{foundFrom, find-start, find-here, find-on, find-end}
 use Rattle.forming.proofs.Glyphs.{span-next, spans-length}
 use borrow.Author.Needs.{needs}

@@ -1,7 +1,7 @@
 -- `job::check::orders_ok` meets its contract. Assumes nothing.
 use Rattle.labels.specs.Decode.{chunkSize, chunkOf}
 use Rattle.labels.specs.Check.{spansOk}
-use Rattle.parts.proofs.Walks.{all-each}
+use Rattle.job_rows.proofs.Walks.{all-each}
 use mathlib.Core.Path.{sym, _∙_}
 use borrow.Author.Needs.{needs}
 use Rattle.job.proofs.check.orders_ok.Statement.{statement}

@@ -1,7 +1,7 @@
 -- `job::check::texts_ok` meets its contract. Assumes nothing.
 use Rattle.labels.specs.Decode.{chunkSize, chunkOf}
 use Rattle.labels.specs.Check.{textOk}
-use Rattle.parts.proofs.Walks.{all-each}
+use Rattle.job_rows.proofs.Walks.{all-each}
 use mathlib.Core.Path.{sym, _∙_}
 use borrow.Author.Needs.{needs}
 use Rattle.job.proofs.check.texts_ok.Statement.{statement}

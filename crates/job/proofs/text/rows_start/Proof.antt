@@ -8,7 +8,7 @@ use Rattle.labels.specs.Bytes.{each}
 use Rattle.labels.specs.Decode.{glyphBytes, glyphOf}
 use Rattle.labels.specs.Utf8.{startsAt}
 use Rattle.job.specs.Walk.{indexOk}
-use Rattle.parts.proofs.Walks.{all-each, each-on, each-stop, each-done}
+use Rattle.job_rows.proofs.Walks.{all-each, each-on, each-stop, each-done}
 use borrow.Author.Needs.{needs}
 use native.Mathlib.Omega.{arith}
 use Rattle.job.proofs.text.rows_start.Statement.{statement}

@@ -3,7 +3,7 @@ use mathlib.Core.Path.{_≡_, refl, sym, _∙_}
 use lib.ListN.{drop}
 use Rattle.labels.specs.Bytes.{each}
 use Rattle.job.specs.Walk.{rowSize, rowOk}
-use Rattle.parts.proofs.Walks.{each-on, each-stop, each-done}
+use Rattle.job_rows.proofs.Walks.{each-on, each-stop, each-done}
 use borrow.Author.Needs.{needs}
 use native.Mathlib.Omega.{arith}
 use Rattle.job.proofs.walk.rows_ok.Statement.{statement}

@@ -4,7 +4,7 @@ use lib.ListN.{drop}
 use Rattle.labels.specs.Bytes.{each}
 use Rattle.labels.specs.Decode.{spanSize}
 use Rattle.job.specs.Walk.{spanPasses}
-use Rattle.parts.proofs.Walks.{each-on, each-stop, each-done}
+use Rattle.job_rows.proofs.Walks.{each-on, each-stop, each-done}
 use Rattle.job.proofs.Last.{each-last}
 use borrow.Author.Needs.{needs}
 use native.Mathlib.Omega.{arith}

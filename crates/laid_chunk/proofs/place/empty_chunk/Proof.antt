@@ -2,7 +2,7 @@
 use mathlib.Core.Path.{ap, _∙_}
 use native.Mathlib.Omega.{arith}
 use Rattle.labels.specs.Utf8.{characters}
-use Rattle.lookup.specs.Rows.{glyphsIn}
+use Rattle.job_rows.specs.Rows.{glyphsIn}
 use Rattle.laid_chunk.proofs.Placed.{without-spans, empty-short, empty-row, one-behind}
 use borrow.Author.Needs.{needs}
 use Rattle.laid_chunk.proofs.place.empty_chunk.Statement.{statement}

@@ -5,7 +5,7 @@ use native.Mathlib.Omega.{arith}
 use lib.ListN.{length}
 use Rattle.labels.specs.Utf8.{characters}
 use Rattle.labels.specs.Layout.{penAfter}
-use Rattle.lookup.specs.Rows.{glyphsIn}
+use Rattle.job_rows.specs.Rows.{glyphsIn}
 use Rattle.clusters.specs.Clusters.{clustersOf}
 use Rattle.clusters.proofs.Rows.{clusters-length}
 use Rattle.laid_chunk.specs.Steps.{jobIn, chunkIn}

@@ -1,6 +1,6 @@
 -- `laid_chunk::write::write_measured` meets its contract. Assumes nothing.
 use native.Mathlib.Omega.{arith}
-use Rattle.lookup.specs.Rows.{fontsIn}
+use Rattle.job_rows.specs.Rows.{fontsIn}
 use Rattle.clusters.specs.Clusters.{clustersOf}
 use Rattle.answer.specs.Spans.{jobWith}
 use Rattle.laid_chunk.proofs.Rows.{most-short, as-long, row-bytes, row-left, row-put}

@@ -6,7 +6,7 @@ use lib.ListN.{length, drop, length-replicate}
 use Rattle.labels.specs.Outcome.{given}
 use Rattle.labels.specs.Merge.{mergeSpan, mergeGlyphs}
 use Rattle.laws.proofs.All.{All}
-use Rattle.lookup.specs.Rows.{partsIn}
+use Rattle.job_rows.specs.Rows.{partsIn}
 use Rattle.merge.specs.Merged.{glyphsIn, mergedOf, FewGlyphs}
 use Rattle.merge.specs.Steps.{Below}
 use Rattle.merge.proofs.Marks.{below-clear}

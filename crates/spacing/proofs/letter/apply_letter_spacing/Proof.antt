@@ -10,7 +10,7 @@ use Rattle.labels.specs.Lists.{scan}
 use Rattle.labels.specs.declared.Cluster.{Cluster}
 use Rattle.labels.specs.Cluster.{rounded}
 use Rattle.labels.specs.Spacing.{nextLetterSpaced, applyLetterSpacing}
-use Rattle.lookup.specs.Rows.{spansIn}
+use Rattle.job_rows.specs.Rows.{spansIn}
 use Rattle.clusters.specs.Clusters.{clustersOf}
 use Rattle.clusters.proofs.Rows.{clusters-length}
 use Rattle.clusters.proofs.Turns.{stored, stage-turn, stage-done}

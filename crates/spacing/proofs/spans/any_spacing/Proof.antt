@@ -12,7 +12,7 @@ use Rattle.labels.specs.Lists.{any}
 use Rattle.labels.specs.Single.{isZero}
 use Rattle.labels.specs.Decode.{spanOf}
 use Rattle.labels.proofs.Loops.{any-here, any-on, any-none}
-use Rattle.lookup.specs.Rows.{spansIn}
+use Rattle.job_rows.specs.Rows.{spansIn}
 use Rattle.spacing.specs.Spans.{spacingOf}
 use Rattle.spacing.specs.declared.spans.Spacing.{Spacing}
 use Rattle.spacing.proofs.Tests.{any-map}

@@ -2,8 +2,8 @@
 use mathlib.Core.Path.{_≡_, refl}
 use Rattle.labels.specs.Single.{+0}
 use Rattle.labels.specs.Job.{blankSpan}
-use Rattle.lookup.specs.Rows.{spansIn}
-use Rattle.lookup.proofs.Rows.{map-in, map-past}
+use Rattle.job_rows.specs.Rows.{spansIn}
+use Rattle.job_rows.proofs.ByNumber.{map-in, map-past}
 use Rattle.spacing.specs.Spans.{spacingOf}
 use Rattle.spacing.specs.declared.spans.Spacing.{Spacing}
 use Rattle.spacing.specs.declared.spans.Spacing.the-variants.{Letter, Word}

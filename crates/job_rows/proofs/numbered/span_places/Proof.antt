@@ -1,0 +1,94 @@
+-- `job_rows::numbered::span_places` meets its contract. Assumes nothing.
+use Rattle.job_rows.proofs.numbered.span_places.Statement.{statement}
+use Rattle.job_rows.proofs.numbered.span_places.Tie as tie
+use borrow.Author.Needs.{needs}
+use native.Mathlib.Omega.{arith}
+use Prim.Native.Nat.{_-_, _≤_}
+use mathlib.Core.Path.{_≡_, refl, sym, _∙_}
+use lib.ListN.{length, take, drop, length-set}
+use Rattle.labels.specs.Bytes.{rows}
+use Rattle.labels.specs.Decode.{spanSize, partsOf}
+use Rattle.job_rows.proofs.ByNumber.{found, found-start, found-turn, found-end, before, before-none, before-turn, before-end}
+
+abbrev Inv-loop : tie.InvT-loop
+Inv-loop s at places₀ p₀ i₀ places p i =
+    (length places ≡ length places₀) × (i ≤ length places) × (p ≤ length s) × (before (length s) (take i places))
+    × (found s places (length places₀) i p ≡ rows spanSize partsOf (length places₀) (drop at s))
+
+abbrev μ-loop : tie.MeasureT-loop
+μ-loop s at places₀ p₀ i₀ places p i = length places₀ - i
+
+loop-holds : tie.Need-loop-holds Inv-loop μ-loop
+loop-holds c =
+    let a = c .before .before .args in (
+      refl,
+      omega arith,
+      omega arith,
+      before-none _ (a .places .now),
+      found-start (a .s .now) (a .places .now) _ (a .at),
+    )
+
+mul-places : tie.Need-mul-places Inv-loop μ-loop
+mul-places c = search needs
+
+slice-write-places : tie.Need-slice-write-places Inv-loop μ-loop
+slice-write-places c = search needs
+
+from-requires : tie.Need-from-requires Inv-loop μ-loop
+from-requires c κs = search needs
+
+span-size-requires : tie.Need-span-size-requires Inv-loop μ-loop
+span-size-requires c κs = search needs
+
+after-requires : tie.Need-after-requires Inv-loop μ-loop
+after-requires c κs = search needs
+
+add-i : tie.Need-add-i Inv-loop μ-loop
+add-i c = search needs
+
+loop-less : tie.Need-loop-less Inv-loop μ-loop
+loop-less c = search needs
+
+loop-again : tie.Need-loop-again Inv-loop μ-loop
+loop-again c =
+    let a = c .before .before .before .before .before .before .before .args in
+    let l = c .before .before .before .before .loop in
+    let row = c .before .before .from in
+    let k = c .before .span-size in (
+      simp length-set (l .inv .0),
+      simp length-set (omega arith),
+      c .after .ensures .1,
+      before-turn _ (l .places) (l .i) (l .p) (omega arith) (l .inv .3) (omega arith),
+      found-turn (a .s .now) (l .places) _ (l .i) (l .p) (c .after .result) (row .result .now) (k .result) (omega arith) (sym (l .inv .0)) (row .ensures) (k .ensures .0) (c .after .ensures .0)
+          ∙ l .inv .4,
+    )
+
+same-length : tie.Need-same-length Inv-loop μ-loop
+same-length c = search needs
+
+returns : tie.Need-returns Inv-loop μ-loop
+returns c =
+    let a = c .before .before .before .before .args in
+    let l = c .before .loop in (
+      sym (found-end (a .s .now) (l .places) _ (l .i) (l .p) (omega arith) (sym (l .inv .0))) ∙ l .inv .4,
+      l .inv .0,
+      before-end _ (l .places) (l .i) (omega arith) (l .inv .3),
+    )
+
+pub span-places-spec : {M : Type 1} → statement M
+span-places-spec =
+    tie.close
+    (tie.spec
+    Inv-loop
+    μ-loop
+    loop-holds
+    mul-places
+    slice-write-places
+    from-requires
+    span-size-requires
+    after-requires
+    add-i
+    loop-less
+    loop-again
+    same-length
+    returns)

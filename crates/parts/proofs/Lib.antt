@@ -1,2 +1,0 @@
-pub mod Walks
-pub mod PaddedRows
