@@ -1,5 +1,5 @@
--- Demand 3: of every job that is accepted, the answer's bytes hold as many chunks and clusters as the exact layout, with the same byte indexes and
--- collapse marks, and each offset is finite and within the distance allowed in its chunk of the exact one. Assumes nothing.
+-- Demand 3: of a job that has what checks 3 to 6 show (`JobIn`), as every accepted one has, the answer's bytes hold as many chunks and clusters as the exact
+-- layout, with the same byte indexes and collapse marks, and each offset is finite and within the distance allowed in its chunk of the exact one. Assumes nothing.
 use Prim.Native.Nat.{ℕ, _+_, _/_, _%_, _≤_, _<_}
 use mathlib.Core.Path.{_≡_, refl, sym, ap, _∙_, subst}
 use mathlib.Core.Bool.{Bool, true, false, cond}
@@ -13,17 +13,16 @@ use lib.Ieee.{Float, nan, inf, fin}
 use lib.Ieee.Fits.{down-pos}
 use Rattle.rounding.specs.Fraction.{Frac, valueOf}
 use Rattle.laws.proofs.All.{All, all-of, all-weaken, both}
-use Rattle.laws.proofs.Accepted.{accepted, floats-in-range, RangedChunk}
-use Rattle.laws.proofs.Counted.{IsByte, counted, CountedChunk}
-use Rattle.laws.proofs.GlyphsAccepted.{merged-accepted}
+use Rattle.laws.proofs.Accepted.{accepted}
+use Rattle.laws.proofs.Counted.{IsByte}
 use Rattle.laws.proofs.ReadBack.{read-answer}
-use Rattle.laws.proofs.RowsFit.{rows-fit}
+use Rattle.laws.proofs.RowsFit.{Ready, ReadyJob, ready-chunks, job-fits, job-ready}
 use Rattle.labels.specs.declared.Glyph.{Glyph}
 use Rattle.labels.specs.declared.Cluster.{Cluster}
 use Rattle.labels.specs.Outcome.{Outcome, refused, given, andThen}
 use Rattle.labels.specs.Lists.{scan}
 use Rattle.labels.specs.Utf8.{characters}
-use Rattle.labels.specs.Job.{Job, Chunk, SpanParts, spansOf, topToBottom}
+use Rattle.labels.specs.Job.{Job, Chunk, SpanParts, topToBottom}
 use Rattle.labels.specs.Check.{checked, spansOk}
 use Rattle.labels.specs.Merge.{mergeGlyphs}
 use Rattle.labels.specs.Position.{entries, logicalOrder, resolveRelativeShifts, turnShifts, placedFrom, positioned}
@@ -32,8 +31,7 @@ use Rattle.labels.specs.Answer.{ClusterRow, ChunkRow, answerBytes}
 use Rattle.labels.specs.Layout.{bit, flagsOf, clusterRow, adjustedClusters, resolveClustersPositionsHorizontal, LaidChunk, Progress, beginning, placeChunk, layoutChunk, layoutJob, rowsOf, layoutRows, fitting, layoutOf, bufferAfter}
 use Rattle.labels.specs.Exact.{ExactCluster, AllPairs, Near, NearChunk, NearChunks, NearAnswer, allowed, formedExactly, layoutExactly}
 use Rattle.rounding.proofs.Inputs.{Input}
-use Rattle.exact.proofs.Formed.{FontIn, GlyphIn}
-use Rattle.exact.proofs.Spaced.{SpanIn}
+use Rattle.exact.proofs.Formed.{FontIn}
 use Rattle.exact.proofs.Accepted.{input, spans-in, fonts-in, glyph-in, groups-in}
 use Rattle.exact.proofs.Chunk.{Placed, chunk-placed}
 
@@ -88,26 +86,26 @@ reached (given a) f b e = (a, refl, e)
 
 -- ---- a chunk
 
--- what is known of a chunk of an accepted job
+-- what checks 3 to 6 show of a chunk
 pub record ChunkIn (job : Job) (c : Chunk) : Type 0 where
-  pub spans : All SpanIn (spansOf c)
+  pub ready : Ready job c
   pub order : T (spansOk c)
-  pub few : length (spansOf c) ≤ 32
-  pub glyphs : (gs : List Glyph) → mergeGlyphs (c .parts) ≡ given gs → All (GlyphIn (job .fonts)) gs × (length gs ≤ 1024)
 
+-- and of a job, whatever its bytes
 pub record JobIn (job : Job) : Type 0 where
+  pub ready : ReadyJob job
   pub fonts : All FontIn (job .fonts)
-  pub dx : All Input (job .dx)
-  pub dy : All Input (job .dy)
-  pub chunks : All (ChunkIn job) (job .chunks)
+  pub order : All (λ c. T (spansOk c)) (job .chunks)
 
 module _ (job : Job) (fonts : All FontIn (job .fonts)) (dxs : All Input (job .dx)) (dys : All Input (job .dy)) where
   placed-near : (c : Chunk) → ChunkIn job c → (offset : ℕ) (gs : List Glyph) (ds : List Cluster) → mergeGlyphs (c .parts) ≡ given gs → adjustedClusters job c gs ≡ given ds
       → AllPairs (Near (allowed job offset c (formedExactly job c gs))) (map (clusterRow (job .mode) gs) (resolveClustersPositionsHorizontal job offset c ds .clusters)) (layoutExactly job offset c (formedExactly job c gs))
   placed-near c i offset gs ds m e =
-      let known = i .glyphs gs m in
-      let gi = groups-in (known .0) (known .1) (i .spans) in
-      rows-near (job .mode) gs (chunk-placed job c offset gs fonts (i .spans) (i .order) (i .few) dxs dys gi ds e)
+      let known = i .ready .merged gs m in
+      let spans = spans-in c (i .ready .ranged) in
+      let few = subst (λ (n : ℕ). n ≤ 32) (sym (length-map (c .parts) (λ (p : SpanParts). p .span))) (i .ready .counts .spans) in
+      let gi = groups-in (all-weaken (glyph-in job c) (known .glyphs)) (known .few) spans in
+      rows-near (job .mode) gs (chunk-placed job c offset gs fonts spans (i .order) few dxs dys gi ds e)
 
   -- no cluster, no row
   turn-none : (mode : ℕ) → turnShifts rounded mode [] ≡ []
@@ -176,46 +174,40 @@ module _ (job : Job) (fonts : All FontIn (job .fonts)) (dxs : All Input (job .dx
           let r = rec s e in
           (a .laid ∷ r .0, r .1 ∙ ap (λ (l : List LaidChunk). l ++ r .0) (a .chunks) ∙ append-snoc (st .chunks) (a .laid) (r .0), (a .near, subst (λ (n : ℕ). NearChunks job n cs (rowsOf (r .0))) (a .offset) (r .2)))
 
--- ---- an accepted job
-
-job-in : (bs : List ℕ) (job : Job) → All IsByte bs → checked bs ≡ given job → JobIn job
-job-in bs job h e =
-    let r = floats-in-range bs job e in
-    let merged = merged-accepted bs job h e in
-    let order = all-of spansOk (job .chunks) (accepted bs job e .spans) in
-    record {
-      fonts = fonts-in bs job h e;
-      dx = all-weaken input (r .dx);
-      dy = all-weaken input (r .dy);
-      chunks =
-          both (λ c m x. record {
-            spans = spans-in c (x .0);
-            order = x .1 .0;
-            few = subst (λ (n : ℕ). n ≤ 32) (sym (length-map (c .parts) (λ (p : SpanParts). p .span))) (x .1 .1 .spans);
-            glyphs = λ gs f. (all-weaken (glyph-in job c) (m gs f .glyphs), m gs f .few);
-          }) merged (both {R = λ c. RangedChunk c × (T (spansOk c) × CountedChunk c)} (λ c p q. (p, q)) (r .chunks) (both {R = λ c. T (spansOk c) × CountedChunk c} (λ c p q. (p, q)) order (counted bs job e .each)));
-    }
-
-rows-of-job : (job : Job) → JobIn job → (rows : List LaidChunk) → layoutJob job ≡ given rows → NearChunks job 0 (job .chunks) (rowsOf rows)
+-- ---- demand 3, of a job's rows
+pub near-job : (job : Job) → JobIn job → (laid : List LaidChunk) → layoutJob job ≡ given laid → NearChunks job 0 (job .chunks) (rowsOf laid)
 unfolding layoutJob
-rows-of-job job i rows e =
-    let r = reached (foldl (layoutChunk job) (given beginning) (job .chunks)) _ rows e in
-    let l = laid-chunks job (i .fonts) (i .dx) (i .dy) (job .chunks) (i .chunks) beginning (r .0) (r .1) in
-    let same : r .0 .chunks ≡ rows = cc (r .2) in
+near-job job i laid e =
+    let r = reached (foldl (layoutChunk job) (given beginning) (job .chunks)) _ laid e in
+    let floats = i .ready .ranged in
+    let chunks : All (ChunkIn job) (job .chunks) = both (λ c x o. record { ready = x; order = o }) (ready-chunks (i .ready)) (i .order) in
+    let l = laid-chunks job (i .fonts) (all-weaken input (floats .dx)) (all-weaken input (floats .dy)) (job .chunks) chunks beginning (r .0) (r .1) in
+    let same : r .0 .chunks ≡ laid = cc (r .2) in
     subst (λ (ls : List LaidChunk). NearChunks job 0 (job .chunks) (rowsOf ls)) (sym (l .1) ∙ same) (l .2)
 
--- demand 3, of the rows that a job's bytes give
+-- of the bytes that hold them, whatever follows
+pub near-written : (job : Job) → JobIn job → (laid : List LaidChunk) (after : List ℕ) → layoutJob job ≡ given laid → NearAnswer (given job) (answerBytes (rowsOf laid) ++ after)
+unfolding NearAnswer
+near-written job i laid after e =
+    let fit = job-fits job (i .ready) laid e in
+    subst (NearChunks job 0 (job .chunks)) (sym (read-answer (rowsOf laid) after (fit .1) (fit .0))) (near-job job i laid e)
+
+-- ---- demand 3, of an accepted job
+
+pub job-in : (bs : List ℕ) (job : Job) → All IsByte bs → checked bs ≡ given job → JobIn job
+job-in bs job h e = record { ready = job-ready bs job h e; fonts = fonts-in bs job h e; order = all-of spansOk (job .chunks) (accepted bs job e .spans) }
+
 pub near-rows : (bs : List ℕ) (rows : List ChunkRow) (after : List ℕ) → All IsByte bs → layoutRows bs ≡ given rows → NearAnswer (checked bs) (answerBytes rows ++ after)
-unfolding layoutRows NearAnswer
+unfolding layoutRows
 near-rows bs rows after h e =
     let r = reached (checked bs) _ rows e in
     let l = reached (layoutJob (r .0)) _ rows (r .2) in
     let same : rowsOf (l .0) ≡ rows = cc (l .2) in
-    let fit = rows-fit bs rows h e in
-    let near = subst (λ (rs : List ChunkRow). NearChunks (r .0) 0 (r .0 .chunks) rs) (same ∙ sym (read-answer rows after (fit .1) (fit .0))) (rows-of-job (r .0) (job-in bs (r .0) h (r .1)) (l .0) (l .1)) in
-    subst (λ (o : Outcome Job). NearAnswer o (answerBytes rows ++ after)) (sym (r .1)) near
+    let near = near-written (r .0) (job-in bs (r .0) h (r .1)) (l .0) after (l .1) in
+    subst (λ (o : Outcome Job). NearAnswer o (answerBytes rows ++ after)) (sym (r .1))
+    (subst (λ (rs : List ChunkRow). NearAnswer (given (r .0)) (answerBytes rs ++ after)) same near)
 
--- ---- demand 3, as the call leaves it: whatever the lent buffer held before, its bytes afterwards are near
+-- as the call leaves it: whatever the lent buffer held before, its bytes afterwards are near
 pub near-answer : (bs : List ℕ) (room : ℕ) (answer old : List ℕ) → All IsByte bs → layoutOf bs room ≡ given answer → NearAnswer (checked bs) (bufferAfter (layoutOf bs room) old)
 unfolding layoutOf fitting
 near-answer bs room answer old h e =

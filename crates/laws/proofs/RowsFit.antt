@@ -1,4 +1,5 @@
--- The rows that a layout gives for an accepted job fit the fields of the answer record, as `read-answer` asks. Assumes nothing.
+-- The rows that a layout gives for a job fit the fields of the answer record, as `read-answer` asks, where the job has what checks 3 to 5 show
+-- (`ReadyJob`), as every accepted one has. Assumes nothing.
 use Prim.Native.Nat.{ℕ, suc, _+_, _^_, _≤_, _<_}
 use mathlib.Core.Path.{_≡_, refl, subst}
 use mathlib.Core.Bool.{Bool, not, cond}
@@ -12,8 +13,8 @@ use lib.Ieee.Fits.{add-fits, ofInt-fits, and-l}
 use Rattle.laws.proofs.All.{All, all-append, all-take, all-drop, all-map, all-every, all-weaken, both, cond-keeps, first, rest}
 use Rattle.laws.proofs.Few.{Few, few-map}
 use Rattle.laws.proofs.IfGiven.{IfGiven, if-given, of-given, given-then}
-use Rattle.laws.proofs.Accepted.{RangedChunk, floats-in-range}
-use Rattle.laws.proofs.Counted.{IsByte, CountedChunk, counted}
+use Rattle.laws.proofs.Accepted.{RangedChunk, RangedJob, floats-in-range}
+use Rattle.laws.proofs.Counted.{IsByte, CountedChunk, CountedJob, counted}
 use Rattle.laws.proofs.Merged.{Kept}
 use Rattle.laws.proofs.ReadBack.{Fits, FitGlyphRow, FitClusterRow, FitChunkRow}
 use Rattle.laws.proofs.GlyphsAccepted.{AcceptedGlyph, MergedAccepted, merged-accepted}
@@ -107,11 +108,22 @@ unfolding penAfter
 pen-fits mode origin endX endY =
     cond-keeps FitPoint (eqb mode topToBottom) (record { x = add-fits binary32 _ _; y = add-fits binary32 _ _ }) (record { x = add-fits binary32 _ _; y = add-fits binary32 _ _ })
 
--- what the job's bytes say of a chunk
-record Ready (job : Job) (c : Chunk) : Type 0 where
-  ranged : RangedChunk c
-  counts : CountedChunk c
-  merged : MergedAccepted job c
+-- what checks 3 to 5 show of a chunk
+pub record Ready (job : Job) (c : Chunk) : Type 0 where
+  pub ranged : RangedChunk c
+  pub counts : CountedChunk c
+  pub merged : MergedAccepted job c
+
+-- and of a job, whatever its bytes
+pub record ReadyJob (job : Job) : Type 0 where
+  pub ranged : RangedJob job
+  pub counts : CountedJob job
+  pub merged : All (MergedAccepted job) (job .chunks)
+
+pub ready-chunks : {job : Job} → ReadyJob job → All (Ready job) (job .chunks)
+ready-chunks r =
+    let pairs = both {R = λ c. RangedChunk c × CountedChunk c} (λ c f n. (f, n)) (r .ranged .chunks) (r .counts .each) in
+    both (λ c x m. record { ranged = x .0; counts = x .1; merged = m }) pairs (r .merged)
 
 module _ (job : Job) (turns : All Fits (job .rotate)) (fonts : length (job .fonts) ≤ limits .fonts) where
   placed-fits : (k : ℕ) (st : Progress) (c : Chunk) {gs : List Glyph} (cs : List Cluster) → Ready job c → Few FitGlyph (limits .merged) gs → FitClusters cs → Laid k st
@@ -157,22 +169,24 @@ module _ (job : Job) (turns : All Fits (job .rotate)) (fonts : length (job .font
 abbrev pub FitRows : List ChunkRow → Type 0
 FitRows rows = All FitChunkRow rows × (length rows < 256 ^ answerCountBytes)
 
-job-fits : (bs : List ℕ) (job : Job) → All IsByte bs → checked bs ≡ given job → IfGiven (λ cs. FitRows (rowsOf cs)) (layoutJob job)
+pub job-fits : (job : Job) → ReadyJob job → (laid : List LaidChunk) → layoutJob job ≡ given laid → FitRows (rowsOf laid)
 unfolding layoutJob
-job-fits bs job h e =
-    let ranged = floats-in-range bs job e in
-    let counts = counted bs job e in
-    let turns = all-weaken (λ x r. r .0) (ranged .rotate) in
-    let pairs = both {R = λ c. RangedChunk c × CountedChunk c} (λ c r n. (r, n)) (ranged .chunks) (counts .each) in
-    let ready : All (Ready job) (job .chunks) = both (λ c x m. record { ranged = x .0; counts = x .1; merged = m }) pairs (merged-accepted bs job h e) in
+job-fits job r laid e =
+    let turns = all-weaken (λ x t. t .0) (r .ranged .rotate) in
     let start : Laid 0 beginning = record { pen = record { x = zero-fits; y = zero-fits }; rows = All.none; count = refl } in
-    given-then (Laid (0 + length (job .chunks))) (λ cs. FitRows (rowsOf cs)) (foldl (layoutChunk job) (given beginning) (job .chunks)) _
-    (chunks-fit job turns (counts .fonts) 0 (given beginning) ready start)
-    (λ st l. (all-map FitChunkRow (λ (c : LaidChunk). c .row) (λ c f. f) (l .rows), rw (length-map (st .chunks) (λ (c : LaidChunk). c .row)) (omega (arith, l .count, counts .chunks))))
+    of-given (λ cs. FitRows (rowsOf cs)) (layoutJob job) laid
+    (given-then (Laid (0 + length (job .chunks))) (λ cs. FitRows (rowsOf cs)) (foldl (layoutChunk job) (given beginning) (job .chunks)) _
+    (chunks-fit job turns (r .counts .fonts) 0 (given beginning) (ready-chunks r) start)
+    (λ st l. (all-map FitChunkRow (λ (c : LaidChunk). c .row) (λ c f. f) (l .rows), rw (length-map (st .chunks) (λ (c : LaidChunk). c .row)) (omega (arith, l .count, r .counts .chunks))))) e
 
-pub rows-fit : (bs : List ℕ) (rows : List ChunkRow) → All IsByte bs → layoutRows bs ≡ given rows → All FitChunkRow rows × (length rows < 256 ^ answerCountBytes)
+-- ---- an accepted job
+
+pub job-ready : (bs : List ℕ) (job : Job) → All IsByte bs → checked bs ≡ given job → ReadyJob job
+job-ready bs job h e = record { ranged = floats-in-range bs job e; counts = counted bs job e; merged = merged-accepted bs job h e }
+
+pub rows-fit : (bs : List ℕ) (rows : List ChunkRow) → All IsByte bs → layoutRows bs ≡ given rows → FitRows rows
 unfolding layoutRows
 rows-fit bs rows h e =
     of-given FitRows (layoutRows bs) rows
-    (given-then (λ job. checked bs ≡ given job) FitRows (checked bs) _ (if-given _ (checked bs) (λ job a. a))
-    (λ job a. given-then (λ cs. FitRows (rowsOf cs)) FitRows (layoutJob job) _ (job-fits bs job h a) (λ cs f. f))) e
+    (given-then ReadyJob FitRows (checked bs) _ (if-given _ (checked bs) (λ job a. job-ready bs job h a))
+    (λ job r. given-then (λ cs. FitRows (rowsOf cs)) FitRows (layoutJob job) _ (if-given _ (layoutJob job) (job-fits job r)) (λ cs f. f))) e
