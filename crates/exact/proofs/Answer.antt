@@ -13,13 +13,14 @@ use lib.Ieee.{Float, nan, inf, fin}
 use lib.Ieee.Fits.{down-pos}
 use Rattle.rounding.specs.Fraction.{Frac, valueOf}
 use Rattle.laws.proofs.All.{All, all-of, all-weaken, both}
+use Rattle.laws.proofs.Outcomes.{reached}
 use Rattle.laws.proofs.Accepted.{accepted}
 use Rattle.laws.proofs.Counted.{IsByte}
 use Rattle.laws.proofs.ReadBack.{read-answer}
 use Rattle.laws.proofs.RowsFit.{Ready, ReadyJob, ready-chunks, job-fits, job-ready}
 use Rattle.labels.specs.declared.Glyph.{Glyph}
 use Rattle.labels.specs.declared.Cluster.{Cluster}
-use Rattle.labels.specs.Outcome.{Outcome, refused, given, andThen}
+use Rattle.labels.specs.Outcome.{Outcome, refused, given}
 use Rattle.labels.specs.Lists.{scan}
 use Rattle.labels.specs.Utf8.{characters}
 use Rattle.labels.specs.Job.{Job, Chunk, SpanParts, topToBottom}
@@ -77,12 +78,6 @@ row-near {c = c} mode gs p =
 rows-near : {b : Frac} {cs : List Cluster} {qs : List ExactCluster} (mode : ℕ) (gs : List Glyph) → AllPairs (Placed b) cs qs → AllPairs (Near b) (map (clusterRow mode gs) cs) qs
 rows-near mode gs AllPairs.none = AllPairs.none
 rows-near mode gs (AllPairs.more p ps) = AllPairs.more (row-near mode gs p) (rows-near mode gs ps)
-
--- a step that gives a value was reached
-reached : {A B : Type 0} (o : Outcome A) (f : A → Outcome B) (b : B) → andThen o f ≡ given b → (a : A) × (o ≡ given a) × (f a ≡ given b)
-unfolding andThen
-reached (refused n) f b e = let z : _≡_ {A = ℕ} 0 1 = cc in absurd (omega arith)
-reached (given a) f b e = (a, refl, e)
 
 -- ---- a chunk
 

@@ -1,36 +1,33 @@
 -- The answer says what the definitions' `checked` does: it is accepted exactly where that gives a job, and refused under the number
 -- that that refuses with, from 1 to 6. Assumes nothing.
 use Prim.Native.Nat.{ℕ, _<_, _≤_}
-use mathlib.Core.Path.{_≡_, refl, ap}
-use mathlib.Core.Bool.{Bool, true, false, cond}
-use mathlib.Core.List.{List, [], _∷_}
+use mathlib.Core.Path.{_≡_, refl, ap, subst}
+use mathlib.Core.Bool.{_&&_}
+use mathlib.Core.List.{List}
 use native.Mathlib.Omega.{arith}
-use borrow.Author.Needs.{needs}
-use Rattle.labels.specs.Outcome.{Outcome, refused, given, andThen}
+use lib.Dec.{T, ltb, leb, ltb→lt, leb→le}
+use lib.Ieee.Fits.{and-l, and-r}
+use Rattle.laws.proofs.All.{all-of}
+use Rattle.laws.proofs.Outcomes.{first-keeps}
+use Rattle.labels.specs.Lists.{all}
+use Rattle.labels.specs.Outcome.{Outcome, refused, given, andThen, Check, firstFailing}
 use Rattle.labels.specs.Job as J
 use Rattle.labels.specs.Decode.{jobOf}
-use Rattle.labels.specs.Check.{Check, checks, firstFailing, checked, afterVersion}
+use Rattle.labels.specs.Check.{checks, checked, afterVersion}
 use Rattle.labels.specs.declared.Job.{Job}
 use Rattle.job.specs.Answer.{numberOf, placesOf, answerAfter, answerOf}
 use Rattle.job.specs.declared.check.Checked.the-variants.{Accepted, Refused}
 
 -- the numbers of the checks lie from 1 to 6, and so does that of the first that fails
-Numbered : List Check → Type 0
-Numbered [] = Unit {0}
-Numbered (c ∷ cs) = (0 < c .number) × (c .number ≤ 6) × Numbered cs
+abbrev Numbered : Outcome (Unit {0}) → Type 0
+Numbered (refused n) = T (ltb 0 n && leb n 6)
+Numbered (given u) = Unit {0}
 
-first-numbered : (cs : List Check) (bs : List ℕ) (n : ℕ) → Numbered cs → firstFailing cs bs ≡ refused n → (0 < n) × (n ≤ 6)
-unfolding firstFailing Numbered
-first-numbered [] bs n h e = let z : _≡_ {A = ℕ} 0 1 = cc in absurd (omega arith)
-first-numbered (c ∷ cs) bs n h e = go (first-numbered cs bs n (h .2)) (c .passes bs) e
-  where
-    go : (firstFailing cs bs ≡ refused n → (0 < n) × (n ≤ 6)) → (passes : Bool) → cond passes (firstFailing cs bs) (refused (c .number)) ≡ refused n → (0 < n) × (n ≤ 6)
-    go rest true e = rest e
-    go rest false e = let same : c .number ≡ n = cc in (omega arith, omega arith)
-
-numbered : Numbered checks
-unfolding Numbered checks
-numbered = search needs
+first-numbered : (bs : List ℕ) (n : ℕ) → firstFailing checks bs ≡ refused n → (0 < n) × (n ≤ 6)
+unfolding checks all
+first-numbered bs n e =
+    let t = subst Numbered e (first-keeps Numbered checks bs tt (all-of (λ (c : Check (List ℕ)). ltb 0 (c .number) && leb (c .number) 6) checks tt)) in
+    (ltb→lt 0 n (and-l (ltb 0 n) (leb n 6) t), leb→le n 6 (and-r (ltb 0 n) (leb n 6) t))
 
 -- what `checked` and the answer make of the first check that fails
 module _ (bs : List ℕ) where
@@ -85,7 +82,7 @@ module _ (bs : List ℕ) where
   -- a refusal has a number from 1 to 6, so 0 says that the job is accepted
   pub refusal-numbered : (n : ℕ) → answerOf bs ≡ Refused n → (0 < n) × (n ≤ 6)
   unfolding answerOf
-  refusal-numbered n e = first-numbered checks bs n numbered (first-refused (firstFailing checks bs) n e)
+  refusal-numbered n e = first-numbered bs n (first-refused (firstFailing checks bs) n e)
 
   zero-accepted : (o : Outcome (Unit {0})) → ((n : ℕ) → o ≡ refused n → (0 < n) × (n ≤ 6)) → numberOf (answerAfter o bs) ≡ 0 → answerAfter o bs ≡ Accepted (placesOf bs)
   unfolding numberOf answerAfter
@@ -94,4 +91,4 @@ module _ (bs : List ℕ) where
 
   pub accepted-where-zero : numberOf (answerOf bs) ≡ 0 → answerOf bs ≡ Accepted (placesOf bs)
   unfolding answerOf
-  accepted-where-zero = zero-accepted (firstFailing checks bs) (λ n. first-numbered checks bs n numbered)
+  accepted-where-zero = zero-accepted (firstFailing checks bs) (first-numbered bs)

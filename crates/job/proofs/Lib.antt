@@ -3,4 +3,3 @@ pub mod Last
 pub mod Places
 pub mod Tests
 pub mod Answers
-pub mod Chain

@@ -1,5 +1,5 @@
 -- The places of a job in its record: what stands there is what the definitions find in the bytes after the version. Assumes nothing.
-use Prim.Native.Nat.{ℕ, _+_}
+use Prim.Native.Nat.{ℕ, _+_, _<_}
 use mathlib.Core.Path.{_≡_, sym}
 use mathlib.Core.List.{List}
 use native.Mathlib.Omega.{arith}
@@ -10,6 +10,7 @@ use Rattle.labels.specs.Bytes.{be}
 use Rattle.labels.specs.Decode.{listSize, chunksAt, chunkCount, chunkBytes}
 use Rattle.labels.specs.Check.{afterVersion}
 use Rattle.job.specs.Answer.{placesOf}
+use Rattle.job.specs.Checks.{Found}
 
 module _ (s : List ℕ) where
   pub behind-version : (n : ℕ) → drop (5 + n) s ≡ drop n (afterVersion s)
@@ -20,10 +21,10 @@ module _ (s : List ℕ) where
   next-place p k n list p-is list-is k-is = rw (k-is, list-is, p-is, behind-version n) (omega arith)
 
   -- at a record's chunk count: the bytes from the first chunk on, and the count
-  pub chunks-read : (job : Job) (counted chunks : List ℕ) (n : ℕ) → job ≡ placesOf s → counted ≡ drop (job .chunks) s → chunks ≡ drop 1 counted → n ≡ be 1 counted
-      → (chunks ≡ chunkBytes (afterVersion s)) × (n ≡ chunkCount (afterVersion s))
+  pub chunks-read : {job : Job} {counted chunks : List ℕ} {n : ℕ} → job ≡ placesOf s → counted ≡ drop (job .chunks) s → chunks ≡ drop 1 counted → n ≡ be 1 counted → n < 256
+      → Found s job chunks n
   unfolding placesOf chunkBytes chunkCount
-  chunks-read job counted chunks n job-is counted-is chunks-is n-is =
+  chunks-read {counted = counted} job-is counted-is chunks-is n-is small =
       let at = chunksAt (afterVersion s) in
       let here : counted ≡ drop at (afterVersion s) = rw (counted-is, job-is, behind-version at) in
-      (rw (chunks-is, here, drop-drop 1 at (afterVersion s)), rw (n-is, here))
+      record { places = job-is; chunks = rw (chunks-is, here, drop-drop 1 at (afterVersion s)); count = rw (n-is, here); byte = small }

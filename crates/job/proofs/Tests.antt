@@ -1,6 +1,6 @@
 -- The tests of a job's parts, as the code goes through them: walks over rows, spans and chunks. Assumes nothing.
 use Prim.Native.Nat.{ℕ, _+_, _-_, _/_, _%_}
-use mathlib.Core.Path.{_≡_, refl}
+use mathlib.Core.Path.{_≡_, refl, sym}
 use mathlib.Core.Bool.{Bool, true, false, not, _&&_, _||_, and-assoc, and-true}
 use mathlib.Core.List.{List}
 use native.Mathlib.Omega.{arith}
@@ -8,13 +8,16 @@ use borrow.Author.Tests.{ltb-true, ltb-false, eqb-true, eqb-false, eq-eqb, ne-eq
 use lib.ListN.{length, take, drop, length-drop}
 use lib.Dec.{eqb, leb, ltb}
 use Rattle.labels.specs.Lists.{all, every}
-use Rattle.labels.specs.Bytes.{be, float, sizes, rows, each}
+use Rattle.labels.specs.Bytes.{be, float, sizes, each}
 use Rattle.labels.specs.Decode.{fontBytes, glyphBytes, shiftBytes, floatSize, fontOf, glyphOf, shiftOf, spanOf, shiftCount, glyphsAt, glyphCount, spanSize, partsOf, textSize, spansAt, chunkFits, spanCount, spanBytes, chunkSize, chunkOf, listOf, listFits, fontCount, dxAt, dyAt, rotateAt, chunksAt, shaped, chunkCount, chunkBytes, jobOf}
+use Rattle.labels.specs.declared.Job.{Job}
+use Rattle.labels.specs.Job.{Chunk}
 use Rattle.labels.specs.Utf8.{isUtf8}
 use Rattle.labels.specs.Check.{afterVersion, floatOk, flaggedOk, fontOk, glyphOk, shiftOk, spanOk, partsOk, chunkOk, valuesOk, textOk}
 use Rattle.laws.proofs.Records.{length-rows}
 use Rattle.job.specs.Walk.{indexOk, spanPasses, chunkPasses, countsFit, listsOk}
 use Rattle.job.specs.Answer.{placesOf}
+use Rattle.job.specs.Checks.{Found}
 use Rattle.job.proofs.Places.{behind-version}
 use Rattle.job_rows.specs.Head.{headOf}
 use Rattle.job.specs.declared.walk.SpanCheck.the-variants as S
@@ -111,6 +114,7 @@ module _ (s : List ℕ) where
       )
       (simp (and-assoc, and-true))
 
-pub chunks-are : (bs : List ℕ) → jobOf bs .chunks ≡ rows chunkSize chunkOf (chunkCount bs) (chunkBytes bs)
-unfolding jobOf
-chunks-are bs = refl
+  -- the chunks that are found
+  pub chunks-test : (passes : Chunk → Bool) {job : Job} {behind : List ℕ} {n : ℕ} → Found s job behind n → each chunkSize (λ b. passes (chunkOf b)) n behind ≡ all passes (jobOf rest .chunks)
+  unfolding jobOf
+  chunks-test passes found = rw (found .chunks, found .count) (sym (all-each chunkSize chunkOf passes (chunkCount rest) (chunkBytes rest)))

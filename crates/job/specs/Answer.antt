@@ -2,10 +2,10 @@
 use Prim.Native.Nat.{ℕ, _+_}
 use mathlib.Core.List.{List}
 use Rattle.labels.specs.declared.Job.{Job}
-use Rattle.labels.specs.Outcome.{Outcome, refused, given}
+use Rattle.labels.specs.Outcome.{Outcome, refused, given, firstFailing}
 use Rattle.labels.specs.Bytes.{be}
 use Rattle.labels.specs.Decode.{fontCount, dxAt, dyAt, rotateAt, chunksAt}
-use Rattle.labels.specs.Check.{checks, firstFailing, afterVersion}
+use Rattle.labels.specs.Check.{checks, afterVersion}
 use Rattle.job.specs.declared.check.Checked.{Checked}
 use Rattle.job.specs.declared.check.Checked.the-variants.{Accepted, Refused}
 

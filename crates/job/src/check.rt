@@ -14,11 +14,9 @@ use wire::read::byte_at;
 use wire::read::u8_at;
 use wire::read::u32_at;
 ghost use mathlib.Core.Path.{_≡_};
-ghost use Rattle.labels.specs.Lists.{all};
-ghost use Rattle.labels.specs.Bytes.{rows};
-ghost use Rattle.labels.specs.Decode.{chunkSize, chunkOf};
-ghost use Rattle.labels.specs.Check.{lengthOk, versionOk, textOk, spansOk};
+ghost use Rattle.labels.specs.Check.{lengthOk, versionOk};
 ghost use Rattle.job.specs.Answer.{numberOf, placesOf, answerOf};
+ghost use Rattle.job.specs.Checks.{Found, jobPasses};
 
 // Where the version stands, behind the length field; the version that the program reads; and where the job's own fields begin.
 pub const VERSION_AT: usize = 4;
@@ -32,6 +30,28 @@ pub enum Checked {
     Accepted(Job),
     Refused(u8),
 }
+
+// What is tested of a record; and a test with its number.
+pub enum JobCheck {
+    Length,
+    Version,
+    Shape,
+    Values,
+    Text,
+    Spans,
+}
+
+pub struct Listed(pub JobCheck, pub u8);
+
+// The checks in their order.
+const CHECKS: [Listed; 6] = [
+    Listed(JobCheck::Length, 1),
+    Listed(JobCheck::Version, 2),
+    Listed(JobCheck::Shape, 3),
+    Listed(JobCheck::Values, 4),
+    Listed(JobCheck::Text, 5),
+    Listed(JobCheck::Spans, 6),
+];
 
 pub fn length_ok(bytes: &[u8]) -> bool
     ensures { λ r. ⌜ r ≡ lengthOk (now (bytes .entry)) ⌝ }
@@ -47,19 +67,6 @@ pub fn version_ok(bytes: &[u8]) -> bool
     ensures { λ r. ⌜ r ≡ versionOk (now (bytes .entry)) ⌝ }
 {
     byte_at(bytes, VERSION_AT) == JOB_VERSION
-}
-
-// `n` chunks, one after the other, here and below.
-pub fn texts_ok(chunks: &[u8], n: usize) -> bool
-    ensures { λ r. ⌜ r ≡ all textOk (rows chunkSize chunkOf n (now (chunks .entry))) ⌝ }
-{
-    chunks_pass(ChunkCheck::Text, 0, chunks, n)
-}
-
-pub fn orders_ok(chunks: &[u8], n: usize) -> bool
-    ensures { λ r. ⌜ r ≡ all spansOk (rows chunkSize chunkOf n (now (chunks .entry))) ⌝ }
-{
-    chunks_pass(ChunkCheck::Spans, 0, chunks, n)
 }
 
 // Where the parts of the record's job stand, each behind the one before it.
@@ -82,31 +89,36 @@ pub fn places(bytes: &[u8]) -> Job
     }
 }
 
+// `job` says where the parts of the record stand, `chunks` are the bytes from the first chunk on, and `n` is the chunk count.
+pub fn passes(check: JobCheck, bytes: &[u8], job: Job, chunks: &[u8], n: usize) -> bool
+    requires { ⌜ Found (now bytes) job (now chunks) n ⌝ }
+    ensures { λ r. ⌜ r ≡ jobPasses check (now (bytes .entry)) ⌝ }
+{
+    match check {
+        JobCheck::Length => length_ok(bytes),
+        JobCheck::Version => version_ok(bytes),
+        JobCheck::Shape => is_shaped(bytes, job, chunks, n),
+        JobCheck::Values => values_ok(bytes, job, chunks, n),
+        JobCheck::Text => chunks_pass(ChunkCheck::Text, 0, chunks, n),
+        JobCheck::Spans => chunks_pass(ChunkCheck::Spans, 0, chunks, n),
+    }
+}
+
 pub fn check(bytes: &[u8]) -> Checked
     ensures { λ r. ⌜ r ≡ answerOf (now (bytes .entry)) ⌝ }
 {
-    if !length_ok(bytes) {
-        return Checked::Refused(1);
-    }
-    if !version_ok(bytes) {
-        return Checked::Refused(2);
-    }
     let job = places(bytes);
     // from the chunk count on
     let counted = from(bytes, job.chunks);
     let n = u8_at(counted, 0) as usize;
     let chunks = from(counted, CHUNK_COUNT_BYTES);
-    if !is_shaped(bytes, job, chunks, n) {
-        return Checked::Refused(3);
-    }
-    if !values_ok(bytes, job, chunks, n) {
-        return Checked::Refused(4);
-    }
-    if !texts_ok(chunks, n) {
-        return Checked::Refused(5);
-    }
-    if !orders_ok(chunks, n) {
-        return Checked::Refused(6);
+    let checks = CHECKS;
+    for i in 0..checks.len() {
+        let next = checks[i];
+        let test = next.0;
+        if !passes(test, bytes, job, chunks, n) {
+            return Checked::Refused(next.1);
+        }
     }
     Checked::Accepted(job)
 }

@@ -18,11 +18,11 @@ use labels::Job;
 use wire::place::from;
 use wire::read::u16_at;
 ghost use mathlib.Core.Path.{_≡_};
-ghost use Prim.Native.Nat.{_<_};
-ghost use Rattle.labels.specs.Decode.{spanFits, chunkFits, listFits, chunkBytes, chunkCount, shaped};
+ghost use Rattle.labels.specs.Decode.{spanFits, chunkFits, listFits, chunkCount, shaped};
 ghost use Rattle.labels.specs.Check.{afterVersion};
 ghost use Rattle.job.specs.Walk.{countsFit};
 ghost use Rattle.job.specs.Answer.{placesOf};
+ghost use Rattle.job.specs.Checks.{Found};
 
 pub fn span_fits(span: &[u8]) -> bool
     ensures { λ r. ⌜ r ≡ spanFits (now (span .entry)) ⌝ }
@@ -65,7 +65,7 @@ pub fn counts_fit(bytes: &[u8], job: Job, n: usize) -> bool
 
 // `chunks` are the bytes from the first chunk on. The chunk count has to be there, and the chunks to end with the record.
 pub fn is_shaped(bytes: &[u8], job: Job, chunks: &[u8], n: usize) -> bool
-    requires { ⌜ (job ≡ placesOf (now bytes)) × (now chunks ≡ chunkBytes (afterVersion (now bytes))) × (n ≡ chunkCount (afterVersion (now bytes))) × (n < 256) ⌝ }
+    requires { ⌜ Found (now bytes) job (now chunks) n ⌝ }
     ensures { λ r. ⌜ r ≡ shaped (afterVersion (now (bytes .entry))) ⌝ }
 {
     if !counts_fit(bytes, job, n) {

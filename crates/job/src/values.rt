@@ -25,10 +25,11 @@ use wire::place::from;
 use wire::read::u16_at;
 ghost use mathlib.Core.Path.{_≡_};
 ghost use Rattle.labels.specs.Lists.{all};
-ghost use Rattle.labels.specs.Decode.{partsOf, chunkOf, listOf, chunkBytes, chunkCount, jobOf};
+ghost use Rattle.labels.specs.Decode.{partsOf, chunkOf, listOf, jobOf};
 ghost use Rattle.labels.specs.Check.{afterVersion, floatOk, partsOk, chunkOk, valuesOk};
 ghost use Rattle.job.specs.Walk.{listsOk};
 ghost use Rattle.job.specs.Answer.{placesOf};
+ghost use Rattle.job.specs.Checks.{Found};
 
 // A span with its shifts and glyphs. A span with no font has no glyphs.
 pub fn parts_ok(fonts: usize, span: &[u8]) -> bool
@@ -80,7 +81,7 @@ pub fn lists_ok(bytes: &[u8], job: Job) -> bool
 
 // `chunks` are the bytes from the first chunk on, and `n` is the chunk count.
 pub fn values_ok(bytes: &[u8], job: Job, chunks: &[u8], n: usize) -> bool
-    requires { ⌜ (job ≡ placesOf (now bytes)) × (now chunks ≡ chunkBytes (afterVersion (now bytes))) × (n ≡ chunkCount (afterVersion (now bytes))) ⌝ }
+    requires { ⌜ Found (now bytes) job (now chunks) n ⌝ }
     ensures { λ r. ⌜ r ≡ valuesOk (jobOf (afterVersion (now (bytes .entry)))) ⌝ }
 {
     let fonts = from(bytes, AFTER_VERSION + FONTS_AT);

@@ -6,7 +6,7 @@ use lib.ListN.{getD, drop, length}
 use lib.Dec.{leb, ltb, eqb}
 use lib.IntN.{ℤ, natAbs}
 use lib.Ieee.{Float, neg}
-use Rattle.labels.specs.Outcome.{Outcome, refused, given, andThen}
+use Rattle.labels.specs.Outcome.{Outcome, given, andThen, Check, firstFailing}
 use Rattle.labels.specs.Lists.{all, every, isEmpty}
 use Rattle.labels.specs.Bytes.{be}
 use Rattle.labels.specs.Single.{smallest, largest, smallestSize, largestSize, isZero, between, isZeroBits}
@@ -127,12 +127,7 @@ spansOk c = ordered (length (c .text)) 0 (spansOf c)
 
 -- ---- in order
 
--- a refusal number, and what the record must pass
-pub record Check : Type 0 where
-  pub number : ℕ
-  pub passes : List ℕ → Bool
-
-unfoldable pub checks : List Check
+unfoldable pub checks : List (Check (List ℕ))
 checks =
     record { number = 1; passes = lengthOk } ∷ record { number = 2; passes = versionOk }
     ∷ record { number = 3; passes = λ bs. shaped (afterVersion bs) }
@@ -140,11 +135,6 @@ checks =
     ∷ record { number = 5; passes = λ bs. all textOk (jobOf (afterVersion bs) .chunks) }
     ∷ record { number = 6; passes = λ bs. all spansOk (jobOf (afterVersion bs) .chunks) }
     ∷ []
-
--- refused with the number of the first check that the record does not pass
-unfoldable pub firstFailing : List Check → List ℕ → Outcome (Unit {0})
-firstFailing [] bs = given tt
-firstFailing (c ∷ cs) bs = let rest = firstFailing cs bs in cond (c .passes bs) rest (refused (c .number))
 
 -- the job that the bytes hold, or the refusal that its own fields earn
 unfoldable pub checked : List ℕ → Outcome Job

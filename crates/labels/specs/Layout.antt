@@ -1,5 +1,6 @@
 -- The whole call: from a job's bytes to the answer's, or the refusal. Definitions only.
 use Prim.Native.Nat.{ℕ, _+_}
+use mathlib.Core.Path.{_≡_}
 use mathlib.Core.Bool.{Bool, cond}
 use mathlib.Core.List.{List, [], _∷_, _++_, map, foldl}
 use lib.ListN.{length, take, drop}
@@ -184,3 +185,9 @@ lengthOf (given answer) = length answer
 abbrev pub bufferAfter : Outcome (List ℕ) → List ℕ → List ℕ
 bufferAfter (refused n) old = old
 bufferAfter (given answer) old = answer ++ drop (length answer) old
+
+-- the number `told`, the length `long` and the buffer's bytes `new`, behind the bytes `old`, are those of an outcome
+pub record Answers (o : Outcome (List ℕ)) (old : List ℕ) (told long : ℕ) (new : List ℕ) : Type 0 where
+  pub number : told ≡ numberOf o
+  pub written : long ≡ lengthOf o
+  pub buffer : new ≡ bufferAfter o old

@@ -1,22 +1,22 @@
 -- What a job that is accepted by checks 1 to 6 has: each check passes, and every float is in range. Assumes nothing.
 use Prim.Native.Nat.{ℕ}
-use mathlib.Core.Path.{_≡_, refl, sym, ap, _∙_, subst}
-use mathlib.Core.Bool.{Bool, true, false, _&&_}
-use mathlib.Core.List.{List, [], _∷_}
-use native.Mathlib.Omega.{arith}
+use mathlib.Core.Path.{_≡_, sym, ap, _∙_, subst}
+use mathlib.Core.Bool.{Bool, true, false}
+use mathlib.Core.List.{List}
 use lib.ListN.{length}
 use lib.Dec.{T, eqb→eq}
 use lib.Ieee.{Float, binary32, fits, ofBits, eq}
 use lib.Ieee.Bits.{ofBits-fits, ofBits-toBits}
 use Rattle.laws.proofs.All.{All, all-of, all-every, all-rows, both, first, rest}
-use Rattle.labels.specs.Outcome.{Outcome, refused, given, andThen}
+use Rattle.laws.proofs.Outcomes.{reached, all-passed}
+use Rattle.labels.specs.Outcome.{given, Check, firstFailing}
 use Rattle.labels.specs.Lists.{all}
 use Rattle.labels.specs.Bytes.{float}
 use Rattle.labels.specs.Single.{isZeroBits}
 use Rattle.labels.specs.declared.Span.{Span}
 use Rattle.labels.specs.Job.{Job, Chunk, SpanParts, Shift, hasX, hasY, hasLength}
 use Rattle.labels.specs.Decode.{shaped, jobOf, chunkOf, partsOf, spanOf, shiftOf, listOf}
-use Rattle.labels.specs.Check.{Check, checks, firstFailing, checked, afterVersion, lengthOk, versionOk, valuesOk, chunkOk, partsOk, spanOk, shiftOk, sizeOk, floatOk, flaggedOk, textOk, spansOk}
+use Rattle.labels.specs.Check.{checks, checked, afterVersion, lengthOk, versionOk, valuesOk, chunkOk, partsOk, spanOk, shiftOk, sizeOk, floatOk, flaggedOk, textOk, spansOk}
 
 -- ---- each check passes
 
@@ -29,31 +29,12 @@ pub record Accepted (bs : List ℕ) (job : Job) : Type 0 where
   pub text : T (all textOk (job .chunks))
   pub spans : T (all spansOk (job .chunks))
 
--- no check is the first that fails
-passed : (cs : List Check) (bs : List ℕ) → firstFailing cs bs ≡ given tt → T (all (λ (c : Check). c .passes bs) cs)
-unfolding firstFailing all
-passed [] bs e = tt
-passed (c ∷ cs) bs e = go (c .passes bs) refl (passed cs bs)
-  where
-    go : (p : Bool) → c .passes bs ≡ p → (firstFailing cs bs ≡ given tt → T (all (λ (c : Check). c .passes bs) cs)) → T (c .passes bs && all (λ (c : Check). c .passes bs) cs)
-    go true h others = rw h (others (rw h at e))
-    go false h others =
-        let impossible : refused (c .number) ≡ given tt = rw h at e in
-        let z : _≡_ {A = ℕ} 0 1 = cc in
-        absurd (omega arith)
-
--- a step that gives a value was reached
-pub reached : {A B : Type 0} (o : Outcome A) (f : A → Outcome B) (b : B) → andThen o f ≡ given b → (a : A) × (o ≡ given a) × (f a ≡ given b)
-unfolding andThen
-reached (refused n) f b e = let z : _≡_ {A = ℕ} 0 1 = cc in absurd (omega arith)
-reached (given a) f b e = (a, refl, e)
-
 pub accepted : (bs : List ℕ) (job : Job) → checked bs ≡ given job → Accepted bs job
 unfolding checked checks
 accepted bs job e =
     let r = reached (firstFailing checks bs) (λ (u : Unit {0}). given (jobOf (afterVersion bs))) job e in
     let is : jobOf (afterVersion bs) ≡ job = cc (r .2) in
-    let from-1 = all-of (λ (c : Check). c .passes bs) checks (passed checks bs (r .1)) in
+    let from-1 = all-of (λ (c : Check (List ℕ)). c .passes bs) checks (all-passed checks bs (r .1)) in
     let from-4 = rest (rest (rest from-1)) in
     record {
       is = is;

@@ -9,7 +9,8 @@ use lib.Dec.{T, leb→le, eqb→eq}
 use Rattle.laws.proofs.All.{All, all-of, all-every, first, rest}
 use Rattle.laws.proofs.IfGiven.{IfGiven, if-given, of-given, given-then}
 use Rattle.laws.proofs.Records.{length-rows}
-use Rattle.laws.proofs.Accepted.{reached, accepted}
+use Rattle.laws.proofs.Outcomes.{reached}
+use Rattle.laws.proofs.Accepted.{accepted}
 use Rattle.laws.proofs.AnswerLength.{length-answer}
 use Rattle.laws.proofs.Sums.{total, total-append, total-counted, total-rows}
 use Rattle.laws.proofs.MergedLength.{glyphRowsIn, merged-length}

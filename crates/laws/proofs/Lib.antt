@@ -3,6 +3,8 @@ pub mod Numbers
 pub mod Records
 pub mod AnswerLength
 pub mod All
+pub mod Tests
+pub mod Outcomes
 pub mod Accepted
 pub mod Counted
 pub mod ChunkPassed

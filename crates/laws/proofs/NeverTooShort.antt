@@ -7,16 +7,17 @@ use native.Mathlib.Nat.{le-trans}
 use native.Mathlib.Omega.{arith}
 use lib.ListN.{length}
 use lib.Dec.{T, leb, ltb, eqb, le→leb}
-use Rattle.laws.proofs.All.{All, fold-keeps, cond-keeps}
+use Rattle.laws.proofs.All.{all-of, fold-keeps, cond-keeps}
+use Rattle.laws.proofs.Outcomes.{first-keeps}
 use Rattle.laws.proofs.AnswerBound.{answer-bound, answer-small}
-use Rattle.labels.specs.Outcome.{Outcome, refused, given, andThen}
+use Rattle.labels.specs.Outcome.{Outcome, refused, given, andThen, Check, firstFailing}
 use Rattle.labels.specs.Lists.{all, among, atOr}
 use Rattle.labels.specs.Single.{+0, isZero}
 use Rattle.labels.specs.declared.Glyph.{Glyph}
 use Rattle.labels.specs.declared.Span.{Span}
 use Rattle.labels.specs.declared.Cluster.{Cluster}
 use Rattle.labels.specs.Job.{Job, Chunk, SpanParts, limits, spansOf, hasLength, adjustSpacingAndGlyphs}
-use Rattle.labels.specs.Check.{Check, checks, firstFailing, checked}
+use Rattle.labels.specs.Check.{checks, checked}
 use Rattle.labels.specs.Merge.{Merging, halted, merging, spanContains, placeOf, replaceLonger, replace, insertNext, replaceFirst, mergeGlyph, mergeDone, mergeSpan, mergeGlyphs}
 use Rattle.labels.specs.Cluster.{widthOf, adjustGlyphsOf, adjustSpan, applyLengthAdjust}
 use Rattle.labels.specs.Answer.{ChunkRow, answerBytes}
@@ -33,17 +34,12 @@ unfolding andThen
 then-not-10 (refused n) f h k = h
 then-not-10 (given a) f h k = k a
 
--- checks 1 to 6
-failing-not-10 : (cs : List Check) (bs : List ℕ) → All (λ c. T (not (eqb (c .number) 10))) cs → Not10 (firstFailing cs bs)
-unfolding firstFailing
-failing-not-10 cs bs All.none = tt
-failing-not-10 cs bs (All.more {x = c} {xs = ds} h hs) = cond-keeps Not10 (c .passes bs) (failing-not-10 ds bs hs) h
-
+-- the checks
 checked-not-10 : (bs : List ℕ) → Not10 (checked bs)
-unfolding checked checks
+unfolding checked checks all
 checked-not-10 bs =
     then-not-10 (firstFailing checks bs) _
-    (failing-not-10 checks bs (All.more tt (All.more tt (All.more tt (All.more tt (All.more tt (All.more tt All.none)))))))
+    (first-keeps Not10 checks bs tt (all-of (λ (c : Check (List ℕ)). not (eqb (c .number) 10)) checks tt))
     (λ passed. tt)
 
 -- 7 and 8

@@ -17,12 +17,10 @@ use Rattle.labels.specs.Merge.{mergeGlyphs}
 use Rattle.labels.specs.declared.Glyph.{Glyph}
 use Rattle.labels.specs.declared.Cluster.{Cluster}
 use Rattle.labels.specs.Check.{checked}
-use Rattle.labels.specs.Layout.{LaidChunk, Progress, beginning, rowsOf, adjustedClusters, placeChunk, layoutChunk, layoutJob, layoutRows, fitting, layoutOf}
+use Rattle.labels.specs.Layout.{LaidChunk, Progress, beginning, rowsOf, adjustedClusters, placeChunk, layoutChunk, layoutJob, layoutRows, fitting, layoutOf, Answers}
 use Rattle.wire.specs.Splice.{splice}
-use Rattle.layout.specs.declared.Answered.the-variants as A
 use Rattle.laid_chunk.specs.Steps.{jobIn, laidBytes, putFrom}
 use Rattle.layout.specs.Steps.{jobLaid, answered}
-use Rattle.layout.specs.Called.{Answers}
 use Rattle.layout.proofs.Copied.{answerLength, refused-unput, longer-unput, rows-put}
 
 -- ---- a row for each chunk
@@ -103,7 +101,7 @@ module _ (o : Outcome Progress) (old : List ℕ) where
   abbrev room : ℕ
   room = length old
 
-  pub answers-refused : (k : ℕ) {new : List ℕ} → o ≡ refused k → new ≡ putFrom room old answerHeadSize o → Answers (answered o room) old (A.Refused k) new
+  pub answers-refused : (k : ℕ) {new : List ℕ} → o ≡ refused k → new ≡ putFrom room old answerHeadSize o → Answers (answered o room) old k 0 new
   unfolding answered andThen
   answers-refused k e b = rw e (record { number = refl; written = refl; buffer = b ∙ refused-unput o room old k e })
 
@@ -111,14 +109,14 @@ module _ (o : Outcome Progress) (old : List ℕ) where
     abbrev rows : List ChunkRow
     rows = rowsOf (st .chunks)
 
-    pub answers-too-long : {new : List ℕ} → room < answerLength st → new ≡ putFrom room old answerHeadSize o → Answers (answered o room) old (A.Refused 10) new
+    pub answers-too-long : {new : List ℕ} → room < answerLength st → new ≡ putFrom room old answerHeadSize o → Answers (answered o room) old 10 0 new
     unfolding answered andThen fitting laidBytes
     answers-too-long h b =
         rw (e, answer-long rows, lt-leb (answerLength st) room h) (record { number = refl; written = refl; buffer = b ∙ longer-unput o st e room old h })
 
     -- the rows, and then the head
     pub answers-written : (size count : ℕ) {put new : List ℕ} → answerLength st ≤ room → size ≡ answerLength st → count ≡ length rows → put ≡ putFrom room old answerHeadSize o
-        → new ≡ splice put 0 (headOf size count) → Answers (answered o room) old (A.Written size) new
+        → new ≡ splice put 0 (headOf size count) → Answers (answered o room) old 0 size new
     unfolding answered andThen fitting laidBytes
     answers-written size count h n c b₁ b₂ =
         let six : length (headOf size count) ≡ answerHeadSize = simp (length-append, length-bytes) in

@@ -11,12 +11,11 @@ use Rattle.exact.proofs.Answer.{near-answer}
 use Rattle.labels.specs.Outcome.{Outcome, refused, given}
 use Rattle.labels.specs.Check.{checked}
 use Rattle.labels.specs.Layout as definitions
-use Rattle.labels.specs.Layout.{layoutOf, bufferAfter}
+use Rattle.labels.specs.Layout.{layoutOf, bufferAfter, Answers}
 use Rattle.labels.specs.Exact.{NearAnswer}
-use Rattle.layout.specs.declared.Answered.{Answered}
 use Rattle.laid_chunk.specs.Steps.{jobIn}
 use Rattle.layout.specs.Steps.{jobLaid, answered}
-use Rattle.layout.specs.Called.{numberOf, lengthOf, Answers, LaidOut}
+use Rattle.layout.specs.Called.{LaidOut}
 use Rattle.layout.proofs.Answering.{call-given, call-refused}
 
 -- bytes, each known by its place
@@ -25,12 +24,11 @@ bytes-of [] h = All.none
 bytes-of (x ∷ xs) h = All.more (h 0) (bytes-of xs (λ i. h (suc i)))
 
 module _ (s old : List ℕ) where
-  pub promised-given : {r : Answered} {new : List ℕ} → All IsByte s → checked s ≡ given (jobIn s) → Answers (answered (jobLaid s) (length old)) old r new
-      → LaidOut s old (numberOf r) (lengthOf r) new
-  promised-given {r} {new} bs e a =
+  pub promised-given : {told long : ℕ} {new : List ℕ} → All IsByte s → checked s ≡ given (jobIn s) → Answers (answered (jobLaid s) (length old)) old told long new → LaidOut s old told long new
+  promised-given {told} {long} {new} bs e a =
       let is : answered (jobLaid s) (length old) ≡ layoutOf s (length old) = sym (call-given s (length old) e) in
-      let number : numberOf r ≡ definitions.numberOf (layoutOf s (length old)) = a .number ∙ ap definitions.numberOf is in
-      let written : lengthOf r ≡ definitions.lengthOf (layoutOf s (length old)) = a .written ∙ ap definitions.lengthOf is in
+      let number : told ≡ definitions.numberOf (layoutOf s (length old)) = a .number ∙ ap definitions.numberOf is in
+      let written : long ≡ definitions.lengthOf (layoutOf s (length old)) = a .written ∙ ap definitions.lengthOf is in
       let buffer : new ≡ bufferAfter (layoutOf s (length old)) old = a .buffer ∙ ap (λ (o : Outcome (List ℕ)). bufferAfter o old) is in
       record {
         number = number;

@@ -3,7 +3,7 @@ use Prim.Native.Nat.{ℕ, _*_, _≤_}
 use mathlib.Core.Path.{_≡_}
 use mathlib.Core.List.{List}
 use lib.ListN.{length}
-use Rattle.labels.specs.Outcome.{Outcome, given}
+use Rattle.labels.specs.Outcome.{given}
 use Rattle.labels.specs.Check.{checked}
 use Rattle.labels.specs.Layout as definitions
 use Rattle.labels.specs.Layout.{layoutOf, bufferAfter}
@@ -19,12 +19,6 @@ numberOf (Refused k) = k
 abbrev pub lengthOf : Answered → ℕ
 lengthOf (Written n) = n
 lengthOf (Refused k) = 0
-
--- number, length and the buffer's bytes are those of an outcome
-pub record Answers (o : Outcome (List ℕ)) (old : List ℕ) (r : Answered) (new : List ℕ) : Type 0 where
-  pub number : numberOf r ≡ definitions.numberOf o
-  pub written : lengthOf r ≡ definitions.lengthOf o
-  pub buffer : new ≡ bufferAfter o old
 
 -- The call with the job's bytes `job` and a buffer that holds `old`: it returns the number `told` and the length `long`, and leaves the buffer as `new`.
 pub record LaidOut (job old : List ℕ) (told long : ℕ) (new : List ℕ) : Type 0 where

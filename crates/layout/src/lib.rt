@@ -10,8 +10,9 @@ use job::check::check;
 use labels::Job;
 use laid_chunk::progress::Laid;
 ghost use lib.ListN.{length};
+ghost use Rattle.labels.specs.Layout.{Answers};
 ghost use Rattle.layout.specs.Checked.{CheckedJob};
-ghost use Rattle.layout.specs.Called.{numberOf, lengthOf, Answers, LaidOut};
+ghost use Rattle.layout.specs.Called.{numberOf, lengthOf, LaidOut};
 ghost use Rattle.layout.specs.Steps.{answered, jobLaid};
 
 // The answer's whole length, or the number that the job is refused with.
@@ -26,7 +27,7 @@ pub const TOO_LONG: u8 = 10;
 // Of a job that passes the checks.
 fn laid_out(s: &[u8], job: Job, answer: &mut [u8]) -> Answered
     requires { ⌜ CheckedJob (now s) job ⌝ }
-    ensures { λ r. ⌜ Answers (answered (jobLaid (now (s .entry))) (length (now (answer .entry)))) (now (answer .entry)) r (now (answer .exit)) ⌝ }
+    ensures { λ r. ⌜ Answers (answered (jobLaid (now (s .entry))) (length (now (answer .entry)))) (now (answer .entry)) (numberOf r) (lengthOf r) (now (answer .exit)) ⌝ }
 {
     match put_chunks(s, job, answer) {
         Laid::Refused(number) => Answered::Refused(number),

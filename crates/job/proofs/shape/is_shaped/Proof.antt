@@ -7,7 +7,7 @@ use Rattle.job.proofs.shape.is_shaped.Statement.{statement}
 use Rattle.job.proofs.shape.is_shaped.Tie as tie
 
 counts-fit-requires : tie.Need-counts-fit-requires
-counts-fit-requires c κs = search needs
+counts-fit-requires c κs = (c .before .before .pre .places, c .before .before .pre .count)
 
 returns : tie.Need-returns
 returns c =
@@ -28,8 +28,8 @@ returns-2 c =
       shape-test (at-start .args .bytes .now),
       ← c .before .before .before .counts-fit .ensures,
       not-false (c .before .before .before .counts-fit .result) (c .before .before .if1 .left),
-      ← at-start .pre .2,
-      ← at-start .pre .1,
+      ← at-start .pre .count,
+      ← at-start .pre .chunks,
       ← c .before .chunks-pass .ensures,
       not-true (c .before .chunks-pass .result) (c .if2 .taken),
     )
@@ -45,9 +45,9 @@ returns-3 c =
       shape-test (at-start .args .bytes .now),
       ← c .before .before .before .before .before .counts-fit .ensures,
       not-false (c .before .before .before .before .before .counts-fit .result) (c .before .before .before .before .if1 .left),
-      ← at-start .pre .0,
-      ← at-start .pre .2,
-      ← at-start .pre .1,
+      ← at-start .pre .places,
+      ← at-start .pre .count,
+      ← at-start .pre .chunks,
       ← c .before .before .before .chunks-pass .ensures,
       not-false (c .before .before .before .chunks-pass .result) (c .before .before .if2 .left),
       ← c .chunks-size .ensures .0,

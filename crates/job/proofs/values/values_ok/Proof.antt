@@ -25,12 +25,12 @@ returns c =
     let at-start = c .before .before .before .before .before .before .before in
     rw (
       values-test (at-start .args .bytes .now),
-      ← at-start .pre .0,
+      ← at-start .pre .places,
       ← c .before .before .before .before .from .ensures,
       ← c .before .before .rows-ok .ensures,
       ← c .before .lists-ok .ensures,
-      ← at-start .pre .1,
-      ← at-start .pre .2,
+      ← at-start .pre .chunks,
+      ← at-start .pre .count,
       ← c .chunks-pass .ensures,
     )
     refl
