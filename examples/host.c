@@ -86,9 +86,11 @@ static void put_chunk(struct writer *w) {
     put_span(w);
 }
 
-static void build_label(struct writer *w) {
-    w->length = 4; /* the length field is written last */
-    put(w, LAYOUT_VERSION, 1);
+static void build_label(struct writer *w, uint32_t version) {
+    w->length = 0;
+    put(w, 0, 4); /* the length of what follows, which is written last */
+    size_t start = w->length;
+    put(w, version, 1);
     put(w, 0, 1); /* left to right */
     put(w, 1, 1); /* fonts */
     put_font(w);
@@ -97,7 +99,7 @@ static void build_label(struct writer *w) {
     put_chunk(w);
     size_t end = w->length;
     w->length = 0;
-    put(w, (uint32_t)(end - 4), 4);
+    put(w, (uint32_t)(end - start), 4);
     w->length = end;
 }
 
@@ -259,9 +261,9 @@ static void lay_out(const struct writer *job) {
 
 int main(void) {
     struct writer job;
-    build_label(&job);
+    build_label(&job, LAYOUT_VERSION);
     lay_out(&job);
-    job.bytes[4] = LAYOUT_VERSION + 1;
+    build_label(&job, LAYOUT_VERSION + 1);
     lay_out(&job);
     return 0;
 }

@@ -2,6 +2,10 @@
 import os
 import struct
 
+from rows import JOBS, record, written
+
+VERSION = 1
+TABLE = JOBS[VERSION]
 ZERO = b"\0\0\0\0"
 
 
@@ -13,24 +17,19 @@ def bits(n):
     return struct.pack(">I", n)
 
 
-def u16(n):
-    return struct.pack(">H", n)
-
-
 FONT = dict(units=2048, ascent=1536, descent=-512, xheight=1024, underline=-256, thickness=128, through=0, subscript=0, superscript=640)
 
 
 def font(**change):
-    v = {**FONT, **change}
-    return struct.pack(">HhhHhHhhh", *[v[k] for k in FONT])
+    return written(TABLE, "font", {**FONT, **change})
 
 
 def glyph(index, width, length=1, font=0, id=0, dx=0, dy=0, tag=b"Latn", orientation=0):
-    return struct.pack(">IHBiiiB", id, index, length, dx, dy, width, font) + tag + bytes([orientation])
+    return written(TABLE, "glyph", locals())
 
 
 def shift(kind, number=ZERO):
-    return bytes([kind]) + number
+    return written(TABLE, "shift", locals())
 
 
 GLYPHS = [glyph(0, 1280), glyph(1, 512), glyph(2, 1280)]
@@ -38,43 +37,32 @@ GLYPHS = [glyph(0, 1280), glyph(1, 512), glyph(2, 1280)]
 
 def span(start=0, end=3, font=0, size=f(16), letter=f(1), word=f(2), fixed=0, length=ZERO, adjust=0, dominant=0, alignment=0,
          decorations=1, shifts=(), glyphs=GLYPHS, shift_count=None, glyph_count=None):
-    out = u16(start) + u16(end) + bytes([font]) + size + letter + word + bytes([fixed]) + length
-    out += bytes([adjust, dominant, alignment, decorations])
-    out += bytes([len(shifts) if shift_count is None else shift_count]) + b"".join(shifts)
-    return out + u16(len(glyphs) if glyph_count is None else glyph_count) + b"".join(glyphs)
+    return written(TABLE, "span", {**locals(), "#shifts": shift_count, "#glyphs": glyph_count})
 
 
 def chunk(flags=3, x=f(100), y=f(50), anchor=2, flow=0, text=b"A B", spans=None, text_length=None, span_count=None):
     spans = [span()] if spans is None else spans
-    out = bytes([flags]) + x + y + bytes([anchor, flow]) + u16(len(text) if text_length is None else text_length) + text
-    return out + bytes([len(spans) if span_count is None else span_count]) + b"".join(spans)
+    return written(TABLE, "chunk", {**locals(), "#text": text_length, "#spans": span_count})
 
 
-def numbers(values, count=None):
-    return u16(len(values) if count is None else count) + b"".join(values)
-
-
-def job(mode=0, fonts=None, dx=(), dy=(), rotate=(), chunks=None, version=1, length=None, font_count=None, chunk_count=None,
-        lists=None, tail=b""):
+def job(mode=0, fonts=None, dx=(), dy=(), rotate=(), chunks=None, version=VERSION, length=None, font_count=None, chunk_count=None,
+        list_count=None, tail=b""):
     fonts = [font()] if fonts is None else fonts
     chunks = [chunk()] if chunks is None else chunks
-    rest = bytes([mode, len(fonts) if font_count is None else font_count]) + b"".join(fonts)
-    rest += b"".join(numbers(v) for v in (dx, dy, rotate)) if lists is None else lists
-    rest += bytes([len(chunks) if chunk_count is None else chunk_count]) + b"".join(chunks) + tail
-    body = bytes([version]) + rest
-    return struct.pack(">I", len(body) if length is None else length) + body
+    counts = {"#fonts": font_count, "#chunks": chunk_count, "#dx": list_count, "#dy": list_count, "#rotate": list_count}
+    return record(version, written(TABLE, "job", {**locals(), **counts}) + tail, length)
 
 
 def filled(size):
     # chunks of plain text until the record has `size` bytes
     chunks = []
-    bare = len(job(chunks=[]))
-    left = size - bare
+    bare = len(chunk(text=b"", spans=[]))
+    left = size - len(job(chunks=[]))
     while left > 0:
-        n = min(left, 14 + 4096)
-        if 0 < left - n < 14:
-            n -= 14
-        chunks.append(chunk(text=b"x" * (n - 14), spans=[]))
+        n = min(left, bare + 4096)
+        if 0 < left - n < bare:
+            n -= bare
+        chunks.append(chunk(text=b"x" * (n - bare), spans=[]))
         left -= n
     return job(chunks=chunks)
 

@@ -1,12 +1,12 @@
 # Writes data/, args and stdout: P1 to P9 of document 01, the label with document 02's adjust 2, a job of two chunks, one of the most
 # bytes, and one for each refusal 1 to 10, each with the layout in the document's text form. The answers are those of the Rust's own
 # functions, and for adjust 2 of the one that stands for it: build tools/beside first. Run in this folder: python3 make.py
-import struct
 import subprocess
 import sys
 
 sys.path.append("../../tools")
 from jobs import GLYPHS, ZERO, chunk, f, filled, glyph, job, shift, span, write_data
+from rows import read_answer
 
 ORACLE = "../../tools/beside/target/release/beside"
 LENT = 65_536
@@ -16,48 +16,6 @@ def answered(name, lent=LENT):
     """The number and the answer's bytes."""
     words = subprocess.run([ORACLE, "answer", "data/" + name, str(lent)], capture_output=True, check=True, text=True).stdout.split()
     return int(words[0]), b"" if words[1] == "-" else bytes.fromhex(words[1])
-
-
-# ---- an answer's rows
-
-class Reader:
-    def __init__(self, answer):
-        self.answer, self.at = answer, 0
-
-    def read(self, form):
-        row = struct.unpack_from(">" + form, self.answer, self.at)
-        self.at += struct.calcsize(">" + form)
-        return row
-
-
-CLUSTER = ("width", "advance", "spacing", "ascent", "descent", "nudge", "scale", "x", "y", "angle")
-SPAN = ("x", "y", "baseline", "thickness", "under", "over", "through")
-
-
-def read_cluster(r):
-    index, flags = r.read("HB")
-    row = dict(zip(CLUSTER, r.read("10f")), index=index, flags=flags)
-    row["glyphs"] = [r.read("IBff") for _ in range(r.read("H")[0])]
-    return row
-
-
-def read_span(r):
-    index, = r.read("B")
-    row = dict(zip(SPAN, r.read("7f")), index=index)
-    row["runs"] = [r.read("Hf") for _ in range(r.read("H")[0])]
-    return row
-
-
-def read_answer(answer):
-    r = Reader(answer)
-    length, version, count = r.read("IBB")
-    assert (length, version) == (len(answer) - 4, 1)
-    chunks = []
-    for _ in range(count):
-        clusters, spans, x, y = r.read("HBff")
-        chunks.append(dict(pen=(x, y), clusters=[read_cluster(r) for _ in range(clusters)], spans=[read_span(r) for _ in range(spans)]))
-    assert r.at == len(answer)
-    return chunks
 
 
 # ---- the text form
@@ -71,12 +29,12 @@ def text_of(number, answer):
         return line("refused", number)
     out = ""
     for i, c in enumerate(read_answer(answer)):
-        out += line("chunk", i, len(c["clusters"]), *c["pen"])
+        out += line("chunk", i, len(c["clusters"]), c["pen_x"], c["pen_y"])
         for k, row in enumerate(c["clusters"]):
             out += line("cluster", k, row["index"], row["flags"], row["width"], row["advance"], row["x"])
         for s in c["spans"]:
             out += line("span", s["index"], s["baseline"], s["thickness"], s["under"])
-            out += "".join(line("run", s["index"], *run) for run in s["runs"])
+            out += "".join(line("run", s["index"], run["first"], run["width"]) for run in s["runs"])
     return out
 
 
@@ -160,7 +118,8 @@ advances = [[c["advance"] for c in row["clusters"]] for row in rows]
 assert advances[:3] == [[11, 7, 10], [25, 19, 25], [11, 7, 10]]
 assert rows[1]["clusters"][0]["x"] == -54
 assert all(c["scale"] == 2 for c in rows[2]["clusters"])
-assert [c["flags"] for c in rows[3]["clusters"]] == [0, 1, 0] and rows[3]["spans"][0]["runs"] == [(0, 11), (1, 17)]
+assert [c["flags"] for c in rows[3]["clusters"]] == [0, 1, 0]
+assert [(run["first"], run["width"]) for run in rows[3]["spans"][0]["runs"]] == [(0, 11), (1, 17)]
 assert advances[4] == [0, 2, 10]
 assert (rows[5]["spans"][0]["baseline"], rows[6]["spans"][0]["baseline"]) == (4, -5)
 assert (rows[7]["clusters"][0]["flags"], rows[7]["clusters"][0]["nudge"], rows[7]["clusters"][0]["ascent"]) == (2, 4, 5)
@@ -173,5 +132,5 @@ assert len(answered("10-answer-a-byte-too-long", LENT + 1)[1]) == LENT + 1
 
 spread = read_answer(answered("0-text-length-by-adjust-2")[1])[0]
 assert [(c["width"], c["advance"], c["spacing"], c["flags"]) for c in spread["clusters"]] == [(10, 24, 13, 0), (4, 20, 13, 0), (10, 23, 13, 0)]
-assert (spread["clusters"][0]["x"], spread["pen"]) == (-54, (113, 50))
+assert (spread["clusters"][0]["x"], spread["pen_x"], spread["pen_y"]) == (-54, 113, 50)
 assert answered("0-adjust-2-with-clear-flag") == answered("P1-label")

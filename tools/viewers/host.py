@@ -14,6 +14,7 @@ from typing import NamedTuple
 
 sys.path.insert(0, str(Path(__file__).resolve().parent.parent))
 import jobs
+from rows import read_answer
 
 FONTS = Path("/usr/share/fonts/truetype")
 X, Y = 400, 20  # where a label is set
@@ -212,17 +213,13 @@ def library(archive, scratch):
         result = layout_text(job, len(job), answer, len(answer))
         if result.number != 0:
             sys.exit(f"{text_of(line.spans)!r} with adjust {adjust} is refused with {result.number}")
-        return places_in(answer.raw)
+        return places_in(answer.raw[:result.length])
 
     return places
 
 
 def places_in(answer):
     """Each cluster's place by its byte index. Its left edge is the chunk's origin and its shift x."""
-    clusters, at, rows = struct.unpack_from(">H", answer, 6)[0], 17, {}
-    for _ in range(clusters):
-        index, advance, added, shift, glyphs = struct.unpack_from(">H5xff16xf8xH", answer, at)
-        rows[index] = Place(shift, advance, added)
-        at += 45 + 13 * glyphs
-    origin = struct.unpack_from(">f", answer, at + 1)[0]
-    return {index: row._replace(x=origin + row.x) for index, row in rows.items()}
+    chunk = read_answer(answer)[0]
+    origin = chunk["spans"][0]["x"]
+    return {row["index"]: Place(origin + row["x"], row["advance"], row["spacing"]) for row in chunk["clusters"]}

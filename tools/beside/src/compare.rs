@@ -4,7 +4,7 @@ use oracle::bytes::hex;
 use oracle::decode::decode;
 
 use crate::cases::{parts, Case};
-use crate::fields::name_at;
+use crate::fields::first_difference;
 use crate::left_out::ByReason;
 use crate::library;
 use crate::text::Text;
@@ -58,8 +58,7 @@ impl Lender {
         let end = GUARD + answer.len();
         let past = end..lent + 2 * GUARD;
         let got = &self.memory[GUARD..end];
-        if let Some(at) = first_difference(got, answer) {
-            let field = name_at(answer, at);
+        if let Some((at, field)) = first_difference(answer, got) {
             return Some(format!(
                 "{field}: byte {at} {:02x}, right is {:02x}",
                 got[at], answer[at]
@@ -72,9 +71,9 @@ impl Lender {
             }
             _ => "past the lent buffer".to_string(),
         };
-        let before = first_difference(&self.memory[..GUARD], &self.pattern[..GUARD]);
+        let before = first_written(&self.memory[..GUARD], &self.pattern[..GUARD]);
         let after = || {
-            let found = first_difference(&self.memory[past.clone()], &self.pattern[past]);
+            let found = first_written(&self.memory[past.clone()], &self.pattern[past]);
             found.map(|at| at + end)
         };
         before
@@ -83,11 +82,11 @@ impl Lender {
     }
 }
 
-fn first_difference(one: &[u8], other: &[u8]) -> Option<usize> {
-    if one == other {
+fn first_written(memory: &[u8], pattern: &[u8]) -> Option<usize> {
+    if memory == pattern {
         return None;
     }
-    one.iter().zip(other).position(|(a, b)| a != b)
+    memory.iter().zip(pattern).position(|(a, b)| a != b)
 }
 
 /// What a run met beside one text.

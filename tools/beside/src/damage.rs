@@ -1,5 +1,9 @@
 //! Copies of a job with one thing changed: a field to an edge or one past it, a count, or its bytes.
 
+use oracle::form::{
+    MOST_BYTES, MOST_CHUNKS, MOST_FONTS, MOST_GLYPHS, MOST_LIST, MOST_SHIFTS, MOST_SPANS,
+    MOST_TEXT, VERSION_AT,
+};
 use oracle::job::{Chunk, Glyph, Job, Pattern, Shift, Span, NO_FONT};
 
 use crate::encode::encode;
@@ -206,16 +210,16 @@ fn change_count(job: &mut Job, random: &mut Random) {
         return change_long_count(job, past, random);
     }
     match random.below(4) {
-        0 => fill(&mut job.fonts, 16 + past),
-        1 => fill(&mut job.chunks, 16 + past),
+        0 => fill(&mut job.fonts, MOST_FONTS + past),
+        1 => fill(&mut job.chunks, MOST_CHUNKS + past),
         2 => {
             if let Some(chunk) = random.any_of(&mut job.chunks) {
-                fill(&mut chunk.spans, 32 + past);
+                fill(&mut chunk.spans, MOST_SPANS + past);
             }
         }
         _ => {
             if let Some(span) = any_span(job, random) {
-                fill(&mut span.shifts, 8 + past);
+                fill(&mut span.shifts, MOST_SHIFTS + past);
             }
         }
     }
@@ -223,15 +227,15 @@ fn change_count(job: &mut Job, random: &mut Random) {
 
 fn change_long_count(job: &mut Job, past: usize, random: &mut Random) {
     match random.below(3) {
-        0 => job.dx.resize(4_096 + past, 0),
+        0 => job.dx.resize(MOST_LIST + past, 0),
         1 => {
             if let Some(chunk) = random.any_of(&mut job.chunks) {
-                chunk.text.resize(4_096 + past, b'x');
+                chunk.text.resize(MOST_TEXT + past, b'x');
             }
         }
         _ => {
             if let Some(span) = any_span(job, random) {
-                fill(&mut span.glyphs, 1_024 + past);
+                fill(&mut span.glyphs, MOST_GLYPHS + past);
             }
         }
     }
@@ -246,20 +250,20 @@ pub fn fill<T: Clone>(rows: &mut Vec<T>, count: usize) {
 
 fn change_bytes(mut bytes: Vec<u8>, random: &mut Random) -> Vec<u8> {
     match random.below(10) {
-        0..=2 => bytes[4] = random.pick(&[0, 2, 255]),
+        0..=2 => bytes[VERSION_AT] = random.pick(&[0, 2, 255]),
         3 => {
-            let length = u32::from_be_bytes(bytes[..4].try_into().unwrap());
+            let length = (bytes.len() - VERSION_AT) as u32;
             let wrong = random.pick(&[length - 1, length + 1, length + 4, 0, u32::MAX]);
-            bytes[..4].copy_from_slice(&wrong.to_be_bytes());
+            put_length(&mut bytes, wrong);
         }
         4 => bytes.truncate(random.below(bytes.len())),
         5 => bytes.truncate(random.below(7)),
         6 => {
-            bytes.truncate(random.below(bytes.len()).max(5));
+            bytes.truncate(random.below(bytes.len()).max(VERSION_AT + 1));
             correct_length(&mut bytes);
         }
         7 => {
-            let long = random.pick(&[65_536, 65_537]);
+            let long = random.pick(&[MOST_BYTES, MOST_BYTES + 1]);
             let length = if random.one_in(10) {
                 long
             } else {
@@ -281,6 +285,10 @@ fn change_bytes(mut bytes: Vec<u8>, random: &mut Random) -> Vec<u8> {
 }
 
 fn correct_length(bytes: &mut [u8]) {
-    let length = bytes.len() as u32 - 4;
-    bytes[..4].copy_from_slice(&length.to_be_bytes());
+    let length = bytes.len() - VERSION_AT;
+    put_length(bytes, length as u32);
+}
+
+fn put_length(bytes: &mut [u8], length: u32) {
+    bytes[..VERSION_AT].copy_from_slice(&length.to_be_bytes());
 }

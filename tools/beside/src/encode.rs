@@ -13,7 +13,7 @@ pub fn encode(job: &Job) -> Vec<u8> {
     }
     to.u8(job.chunks.len() as u8);
     job.chunks.iter().for_each(|row| chunk(&mut to, row));
-    to.record()
+    to.record(job.version)
 }
 
 fn font(to: &mut Writer, row: &FontRow) {

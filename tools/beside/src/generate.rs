@@ -153,6 +153,7 @@ impl<'a> Maker<'a> {
 
     fn job(&mut self) -> Job {
         Job {
+            version: 1,
             mode: self.random.below(2) as u8,
             fonts: (0..self.fonts).map(|_| self.font()).collect(),
             dx: self.list(),

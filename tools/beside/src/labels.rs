@@ -215,6 +215,7 @@ pub fn job(random: &mut Random) -> Job {
     let shapers: Vec<Shaper> = (0..fonts).map(|i| shaper(i as u8, fonts, random)).collect();
     let mut maker = Maker::of_all(random);
     Job {
+        version: 1,
         mode,
         fonts: (0..fonts).map(|_| maker.font()).collect(),
         dx: maker.list(),

@@ -1,5 +1,9 @@
 //! Jobs at a limit of document 01 or one past it, and jobs that are as large as a part may be.
 
+use oracle::form::{
+    GLYPH_BYTES, MOST_BYTES, MOST_CHUNKS, MOST_FONTS, MOST_GLYPHS, MOST_LIST, MOST_SHIFTS,
+    MOST_SPANS, MOST_TEXT,
+};
 use oracle::job::{Chunk, Glyph, Job, Pattern, Span};
 
 use crate::damage::fill;
@@ -8,20 +12,15 @@ use crate::generate::Maker;
 use crate::labels;
 use crate::random::Random;
 
-const MOST_BYTES: usize = 65_536;
-const MOST_LIST: usize = 4_096;
-const MOST_TEXT: usize = 4_096;
-const MOST_GLYPHS: usize = 1_024;
-
 /// A label with one count at its limit or one past it, or one whose record is just as long as may be.
 pub fn at_a_limit(random: &mut Random) -> Job {
     let mut job = labels::job(random);
     let past = random.below(2);
     match random.below(9) {
-        0 => fill(&mut job.fonts, 16 + past),
-        1 => fill(&mut job.chunks, 16 + past),
-        2 => fill(&mut job.chunks[0].spans[0].shifts, 8 + past),
-        3 => fill_spans(&mut job.chunks[0], 32 + past),
+        0 => fill(&mut job.fonts, MOST_FONTS + past),
+        1 => fill(&mut job.chunks, MOST_CHUNKS + past),
+        2 => fill(&mut job.chunks[0].spans[0].shifts, MOST_SHIFTS + past),
+        3 => fill_spans(&mut job.chunks[0], MOST_SPANS + past),
         4 => lengthen(&mut job.chunks[0].text, MOST_TEXT + past),
         5 => fill(&mut job.chunks[0].spans[0].glyphs, MOST_GLYPHS + past),
         6 | 7 => {
@@ -66,7 +65,7 @@ fn of_length(mut job: Job, bytes: usize) -> Job {
     let missing = bytes.saturating_sub(encode(&job).len());
     fill_glyphs(
         &mut job.chunks[0],
-        missing.saturating_sub(MOST_TEXT / 2) / 25,
+        missing.saturating_sub(MOST_TEXT / 2) / GLYPH_BYTES,
     );
     let missing = bytes.saturating_sub(encode(&job).len());
     let text = &mut job.chunks[0].text;
@@ -173,9 +172,9 @@ fn one_cluster(mut job: Job, count: usize, random: &mut Random) -> Job {
 }
 
 fn many_chunks(mut job: Job, random: &mut Random) -> Job {
-    job.chunks = (0..16)
+    job.chunks = (0..MOST_CHUNKS)
         .flat_map(|_| labels::job(random).chunks)
-        .take(16)
+        .take(MOST_CHUNKS)
         .collect();
     for span in job.chunks.iter_mut().flat_map(|chunk| &mut chunk.spans) {
         let fonts = job.fonts.len() as u8;
@@ -195,8 +194,8 @@ fn many_spans(mut job: Job, count: usize, order: Order, random: &mut Random) -> 
     let (chunk, model) = only_span(&mut job);
     chunk.text = b"x y".repeat(count.div_ceil(3));
     chunk.text.truncate(count);
-    let share = count / 32;
-    for i in 0..32 {
+    let share = count / MOST_SPANS;
+    for i in 0..MOST_SPANS {
         let mut span =
             Maker::of_all(random).span_without_glyphs(i * share, (i + 1) * share, model.font);
         let glyphs = row(&model.glyphs[0], count, 1, order, random);

@@ -3,10 +3,14 @@
 use std::collections::{BTreeMap, BTreeSet};
 
 use oracle::decode::decode;
+use oracle::form::{
+    MOST_BYTES, MOST_CHUNKS, MOST_FONTS, MOST_GLYPHS, MOST_LIST, MOST_SHIFTS, MOST_SPANS, MOST_TEXT,
+};
 use oracle::job::{Chunk, Glyph, Job, Pattern, Span, NUMBER};
+use oracle::rows::Kind;
 
 use crate::cases::Case;
-use crate::fields::{walk, Kind};
+use crate::fields::walk;
 
 #[derive(Default)]
 pub struct Shown {
@@ -44,16 +48,16 @@ const VALUES: &[(&str, usize)] = &[
     ("orientation", 2),
 ];
 const LIMITS: &[(&str, usize)] = &[
-    ("record bytes", 65_536),
-    ("fonts", 16),
-    ("dx", 4_096),
-    ("dy", 4_096),
-    ("rotate", 4_096),
-    ("chunks", 16),
-    ("text bytes", 4_096),
-    ("spans", 32),
-    ("shifts", 8),
-    ("glyphs of a span", 1_024),
+    ("record bytes", MOST_BYTES),
+    ("fonts", MOST_FONTS),
+    ("dx", MOST_LIST),
+    ("dy", MOST_LIST),
+    ("rotate", MOST_LIST),
+    ("chunks", MOST_CHUNKS),
+    ("text bytes", MOST_TEXT),
+    ("spans", MOST_SPANS),
+    ("shifts", MOST_SHIFTS),
+    ("glyphs of a span", MOST_GLYPHS),
 ];
 const FLOATS: &[&str] = &[
     "dx",

@@ -26,13 +26,14 @@ const SEED: u64 = 1;
 /// How many jobs are looked through, at each size in turn.
 const SEARCHED: usize = 20_000;
 /// The bytes that a job and its answer may have: small ones are looked at first.
-const SIZES: &[usize] = &[600, 2_000, 10_000, usize::MAX];
+const SIZES: &[usize] = &[600, 2_000, 10_000, 100_000];
 /// The same for the accepted jobs that fill up.
 const FILLING: usize = 900;
 /// Each branch, number and reading is shown so often, if jobs of the first size do.
 const OFTEN: usize = 3;
-/// So that a program can read a file and lend a buffer of fixed sizes.
-const MOST_FILE: usize = 1 << 17;
+/// A file is filled to so many bytes; a longer record has one of its own. `crates/replay` reads four times as many.
+const MOST_FILE: usize = 1 << 15;
+/// So that a program can lend a buffer of a fixed size.
 const MOST_LENT: usize = 1 << 16;
 
 pub fn write(count: usize, dir: &Path) -> Result<(), Box<dyn Error>> {
@@ -169,7 +170,7 @@ fn write_files(cases: &[Case], dir: &Path) -> Result<usize, Box<dyn Error>> {
     for (i, records) in files.iter().enumerate() {
         let count = (records.len() as u32).to_be_bytes();
         fs::write(
-            dir.join(format!("{i}.jobs")),
+            dir.join(format!("{i:02}.jobs")),
             [&count[..], &records.concat()].concat(),
         )?;
     }

@@ -9,6 +9,10 @@ mod bytes;
 mod check;
 #[path = "../../../beside/oracle/src/decode.rs"]
 mod decode;
+// What only the answer's writer and the jobs' maker ask.
+#[allow(dead_code)]
+#[path = "../../../beside/oracle/src/form.rs"]
+mod form;
 // The Rust has no natural length.
 #[allow(dead_code)]
 #[path = "../../../beside/oracle/src/job.rs"]

@@ -99,7 +99,7 @@ fn natural_length_without_width() {
 fn natural_length_that_is_none() {
     let mut unflagged = label();
     unflagged.chunks[0].spans[0].adjust = 2;
-    let answer = |rows: Result<Vec<ChunkRow>, Refusal>| oracle::answer::answer(&rows.unwrap());
+    let answer = |rows: Result<Vec<ChunkRow>, Refusal>| oracle::answer::answer(1, rows.unwrap());
     let labelled = answer(oracle::rust::rows(&label()));
     assert_eq!(answer(crate::rust::rows(&unflagged)), labelled);
     assert_eq!(answer(oracle::rust::rows(&unflagged)), labelled);

@@ -1,6 +1,8 @@
-//! The answer's rows and their bytes.
+//! The answer's rows and their bytes, by version.
 
-use crate::bytes::{Reader, Writer};
+use crate::bytes::{record, Reader};
+use crate::form::VERSION_AT;
+use crate::rows::{self, count, flags, float, number, rows, Field, Kind, Sink};
 
 pub const RELATIVE_SHIFT: u8 = 1;
 pub const UPRIGHT: u8 = 2;
@@ -9,12 +11,19 @@ pub const SCALED: u8 = 8;
 pub const ROTATED: u8 = 16;
 pub const COLLAPSED: u8 = 32;
 
+#[derive(Default)]
+pub struct Answer {
+    pub chunks: Vec<ChunkRow>,
+}
+
+#[derive(Default)]
 pub struct ChunkRow {
     pub pen: (f32, f32),
     pub clusters: Vec<ClusterRow>,
     pub spans: Vec<SpanRow>,
 }
 
+#[derive(Default)]
 pub struct ClusterRow {
     pub byte_index: u16,
     pub flags: u8,
@@ -30,6 +39,7 @@ pub struct ClusterRow {
     pub glyphs: Vec<GlyphRow>,
 }
 
+#[derive(Default)]
 pub struct GlyphRow {
     pub id: u32,
     pub font: u8,
@@ -49,130 +59,116 @@ pub struct SpanRow {
     pub runs: Vec<Run>,
 }
 
+#[derive(Default)]
 pub struct Run {
     pub first: u16,
     pub width: f32,
 }
 
-pub fn answer(chunks: &[ChunkRow]) -> Vec<u8> {
-    let mut to = Writer::default();
-    to.u8(chunks.len() as u8);
-    chunks.iter().for_each(|row| chunk(&mut to, row));
-    to.record()
+/// A version of the answer: what stands in each row, in order. A later version is an entry more.
+pub struct Form {
+    pub version: u8,
+    /// What stands behind the version byte.
+    pub answer: &'static [Field<Answer>],
+    pub chunk: &'static [Field<ChunkRow>],
+    pub cluster: &'static [Field<ClusterRow>],
+    pub glyph: &'static [Field<GlyphRow>],
+    pub span: &'static [Field<SpanRow>],
+    pub run: &'static [Field<Run>],
 }
 
-fn chunk(to: &mut Writer, row: &ChunkRow) {
-    to.u16(row.clusters.len() as u16);
-    to.u8(row.spans.len() as u8);
-    to.floats(&[row.pen.0, row.pen.1]);
-    row.clusters.iter().for_each(|row| cluster(to, row));
-    row.spans.iter().for_each(|row| span(to, row));
+const FORMS: &[Form] = &[Form {
+    version: 1,
+    answer: ANSWER,
+    chunk: CHUNK,
+    cluster: CLUSTER,
+    glyph: GLYPH,
+    span: SPAN,
+    run: RUN,
+}];
+
+const ANSWER: &[Field<Answer>] = &[
+    count!("chunk count", u8, chunks),
+    rows!("chunk", chunks, chunk),
+];
+const CHUNK: &[Field<ChunkRow>] = &[
+    count!("cluster count", u16, clusters),
+    count!("span row count", u8, spans),
+    float!("pen x", pen.0),
+    float!("pen y", pen.1),
+    rows!("cluster", clusters, cluster),
+    rows!("span row", spans, span),
+];
+const CLUSTER: &[Field<ClusterRow>] = &[
+    number!("byte index", u16, byte_index),
+    flags!("flags", flags),
+    float!("width", width),
+    float!("advance", advance),
+    float!("length spacing", length_spacing),
+    float!("ascent", ascent),
+    float!("descent", descent),
+    float!("nudge", nudge),
+    float!("scale", scale),
+    float!("shift x", shift.0),
+    float!("shift y", shift.1),
+    float!("angle", angle),
+    count!("glyph count", u16, glyphs),
+    rows!("glyph", glyphs, glyph),
+];
+const GLYPH: &[Field<GlyphRow>] = &[
+    number!("id", u32, id),
+    number!("font", u8, font),
+    float!("glyph x", x),
+    float!("glyph y", y),
+];
+const SPAN: &[Field<SpanRow>] = &[
+    number!("index", u8, index),
+    float!("origin x", origin.0),
+    float!("origin y", origin.1),
+    float!("baseline shift", baseline_shift),
+    float!("thickness", thickness),
+    float!("under offset", under),
+    float!("over offset", over),
+    float!("through offset", through),
+    count!("run count", u16, runs),
+    rows!("run", runs, run),
+];
+const RUN: &[Field<Run>] = &[
+    number!("first cluster", u16, first),
+    float!("run width", width),
+];
+
+fn form(version: u8) -> &'static Form {
+    let found = FORMS.iter().find(|form| form.version == version);
+    found.expect("a version of the answer")
 }
 
-fn cluster(to: &mut Writer, row: &ClusterRow) {
-    to.u16(row.byte_index);
-    to.u8(row.flags);
-    to.floats(&[
-        row.width,
-        row.advance,
-        row.length_spacing,
-        row.ascent,
-        row.descent,
-    ]);
-    to.floats(&[row.nudge, row.scale, row.shift.0, row.shift.1, row.angle]);
-    to.u16(row.glyphs.len() as u16);
-    for glyph in &row.glyphs {
-        to.u32(glyph.id);
-        to.u8(glyph.font);
-        to.floats(&[glyph.x, glyph.y]);
-    }
-}
-
-fn span(to: &mut Writer, row: &SpanRow) {
-    to.u8(row.index);
-    to.floats(&[
-        row.origin.0,
-        row.origin.1,
-        row.baseline_shift,
-        row.thickness,
-    ]);
-    to.floats(&[row.under, row.over, row.through]);
-    to.u16(row.runs.len() as u16);
-    for run in &row.runs {
-        to.u16(run.first);
-        to.floats(&[run.width]);
-    }
+/// The answer with these chunks, in this version.
+pub fn answer(version: u8, chunks: Vec<ChunkRow>) -> Vec<u8> {
+    let mut bytes = vec![];
+    let form = form(version);
+    rows::put(&Answer { chunks }, form.answer, form, &mut bytes);
+    record(version, &bytes)
 }
 
 /// The rows of an answer.
 pub fn rows(answer: &[u8]) -> Vec<ChunkRow> {
     let mut from = Reader { rest: answer };
-    let length = from.u32();
+    let length = u32::from_be_bytes(from.array());
     assert_eq!(length as usize, from.rest.len(), "an answer's length");
-    assert_eq!(from.u8(), 1, "an answer's version");
-    let count = from.u8();
-    let rows = (0..count).map(|_| chunk_row(&mut from)).collect();
+    let [version] = from.array();
+    let (mut answer, form) = (Answer::default(), form(version));
+    rows::take(&mut answer, form.answer, form, &mut from);
     assert!(from.rest.is_empty(), "an answer ends with its rows");
-    rows
+    answer.chunks
 }
 
-fn chunk_row(from: &mut Reader) -> ChunkRow {
-    let (clusters, spans) = (from.u16(), from.u8());
-    ChunkRow {
-        pen: from.pair(),
-        clusters: (0..clusters).map(|_| cluster_row(from)).collect(),
-        spans: (0..spans).map(|_| span_row(from)).collect(),
-    }
-}
-
-fn cluster_row(from: &mut Reader) -> ClusterRow {
-    let mut row = ClusterRow {
-        byte_index: from.u16(),
-        flags: from.u8(),
-        width: from.float(),
-        advance: from.float(),
-        length_spacing: from.float(),
-        ascent: from.float(),
-        descent: from.float(),
-        nudge: from.float(),
-        scale: from.float(),
-        shift: from.pair(),
-        angle: from.float(),
-        glyphs: vec![],
-    };
-    let glyphs = from.u16();
-    row.glyphs = (0..glyphs).map(|_| glyph_row(from)).collect();
-    row
-}
-
-fn glyph_row(from: &mut Reader) -> GlyphRow {
-    GlyphRow {
-        id: from.u32(),
-        font: from.u8(),
-        x: from.float(),
-        y: from.float(),
-    }
-}
-
-fn span_row(from: &mut Reader) -> SpanRow {
-    let mut row = SpanRow {
-        index: from.u8(),
-        origin: from.pair(),
-        baseline_shift: from.float(),
-        thickness: from.float(),
-        under: from.float(),
-        over: from.float(),
-        through: from.float(),
-        runs: vec![],
-    };
-    let runs = from.u16();
-    row.runs = (0..runs).map(|_| run(from)).collect();
-    row
-}
-
-fn run(from: &mut Reader) -> Run {
-    Run {
-        first: from.u16(),
-        width: from.float(),
-    }
+/// Puts each field of an answer, as its version has them.
+pub fn walk(answer: &[u8], to: &mut dyn Sink) {
+    let (length, rest) = answer.split_at(VERSION_AT);
+    to.field("length", Kind::Plain, length);
+    to.field("version", Kind::Plain, &rest[..1]);
+    let form = form(rest[0]);
+    let chunks = rows(answer);
+    rows::put(&Answer { chunks }, form.answer, form, to);
 }

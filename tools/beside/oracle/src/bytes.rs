@@ -34,11 +34,16 @@ impl Writer {
         floats.iter().for_each(|x| self.u32(x.to_bits()));
     }
 
-    /// What is written, with its length and the version, 1, before it.
-    pub fn record(self) -> Vec<u8> {
-        let length = self.bytes.len() as u32 + 1;
-        [&length.to_be_bytes()[..], &[1], &self.bytes].concat()
+    /// What is written, as a record of this version.
+    pub fn record(self, version: u8) -> Vec<u8> {
+        record(version, &self.bytes)
     }
+}
+
+/// Rows with the record's length and version before them.
+pub fn record(version: u8, rows: &[u8]) -> Vec<u8> {
+    let length = rows.len() as u32 + 1;
+    [&length.to_be_bytes()[..], &[version], rows].concat()
 }
 
 /// Of a record that is whole; one that ends early is a fault.
@@ -51,26 +56,6 @@ impl Reader<'_> {
         let (taken, rest) = self.rest.split_first_chunk().expect("a whole record");
         self.rest = rest;
         *taken
-    }
-
-    pub fn u8(&mut self) -> u8 {
-        self.array::<1>()[0]
-    }
-
-    pub fn u16(&mut self) -> u16 {
-        u16::from_be_bytes(self.array())
-    }
-
-    pub fn u32(&mut self) -> u32 {
-        u32::from_be_bytes(self.array())
-    }
-
-    pub fn float(&mut self) -> f32 {
-        f32::from_bits(self.u32())
-    }
-
-    pub fn pair(&mut self) -> (f32, f32) {
-        (self.float(), self.float())
     }
 }
 

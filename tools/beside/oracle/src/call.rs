@@ -3,13 +3,15 @@
 use crate::answer::answer;
 use crate::check::check;
 use crate::decode::decode;
+use crate::form::job_form;
 use crate::refusal::{unless, Refusal};
 use crate::rust;
 
 pub fn call(job: &[u8], lent: usize) -> Result<Vec<u8>, Refusal> {
     let job = decode(job)?;
     check(&job)?;
-    let answer = answer(&rust::rows(&job)?);
+    let form = job_form(job.version).expect("checked");
+    let answer = answer(form.answer, rust::rows(&job)?);
     unless(answer.len() <= lent, 10)?;
     Ok(answer)
 }

@@ -1,27 +1,27 @@
 //! From a job's bytes to its fields: checks 1 to 3.
 
+use crate::form::{
+    job_form, JobForm, MOST_BYTES, MOST_FONTS, MOST_GLYPHS, MOST_LIST, MOST_SHIFTS, MOST_SPANS,
+    MOST_TEXT, VERSION_AT,
+};
 use crate::job::{Chunk, FontRow, Glyph, Job, Pattern, Shift, Span};
 use crate::refusal::{unless, Refusal};
 
-const MOST_BYTES: usize = 65_536;
-const MOST_FONTS: usize = 16;
-const MOST_LIST: usize = 4_096;
-const MOST_CHUNKS: usize = 16;
-const MOST_TEXT: usize = 4_096;
-const MOST_SPANS: usize = 32;
-const MOST_SHIFTS: usize = 8;
-const MOST_GLYPHS: usize = 1_024;
+/// The fewest bytes: a length and a version.
+const LEAST_BYTES: usize = VERSION_AT + 1;
 
 pub fn decode(bytes: &[u8]) -> Result<Job, Refusal> {
-    unless((5..=MOST_BYTES).contains(&bytes.len()), 1)?;
-    let (length, rest) = bytes.split_at(4);
+    let form = bytes.get(VERSION_AT).and_then(|&v| job_form(v));
+    let most = form.map_or(MOST_BYTES, |form| form.bytes);
+    unless((LEAST_BYTES..=most).contains(&bytes.len()), 1)?;
+    let (length, rest) = bytes.split_at(VERSION_AT);
     unless(
         u32::from_be_bytes(length.try_into().unwrap()) as usize == rest.len(),
         1,
     )?;
-    unless(rest[0] == 1, 2)?;
+    let form = form.ok_or(Refusal(2))?;
     let mut reader = Reader { rest: &rest[1..] };
-    let job = reader.job()?;
+    let job = reader.job(form)?;
     unless(reader.rest.is_empty(), 3)?;
     Ok(job)
 }
@@ -87,16 +87,17 @@ impl Reader<'_> {
         self.rows(count, Self::u32)
     }
 
-    fn job(&mut self) -> Result<Job, Refusal> {
+    fn job(&mut self, form: &JobForm) -> Result<Job, Refusal> {
         let mode = self.u8()?;
         let fonts = self.short_count(MOST_FONTS)?;
         let fonts = self.rows(fonts, Self::font)?;
         let dx = self.list()?;
         let dy = self.list()?;
         let rotate = self.list()?;
-        let chunks = self.short_count(MOST_CHUNKS)?;
+        let chunks = self.short_count(form.chunks)?;
         let chunks = self.rows(chunks, Self::chunk)?;
         Ok(Job {
+            version: form.version,
             mode,
             fonts,
             dx,

@@ -6,6 +6,7 @@ pub const NO_FONT: u8 = 255;
 
 #[derive(Clone, Debug)]
 pub struct Job {
+    pub version: u8,
     pub mode: u8,
     pub fonts: Vec<FontRow>,
     pub dx: Vec<Pattern>,

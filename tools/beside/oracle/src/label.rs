@@ -54,6 +54,7 @@ pub fn label() -> Job {
         spans: vec![span],
     };
     Job {
+        version: 1,
         mode: 0,
         fonts: vec![font],
         dx: vec![],

@@ -8,6 +8,8 @@ use crate::refusal::{unless, Refusal};
 
 const RELATIVE_SHIFT: u8 = 1;
 const COLLAPSED: u8 = 32;
+/// Of the answer.
+const VERSION: u8 = 1;
 
 pub fn answer(job: &Job) -> Result<Vec<u8>, Refusal> {
     let text = convert::text(job);
@@ -36,7 +38,7 @@ pub fn answer(job: &Job) -> Result<Vec<u8>, Refusal> {
         );
         char_offset += chunk.text.chars().count();
     }
-    Ok(to.record())
+    Ok(to.record(VERSION))
 }
 
 /// Steps 3 to 7, and the pair for the pen.
