@@ -3,12 +3,11 @@ use Prim.Native.Nat.{ℕ, zero, suc, _+_, _-_, _≤_, _<_, min}
 use mathlib.Core.Path.{_≡_, refl, sym, ap, ap₂, _∙_}
 use mathlib.Core.Bool.{true}
 use mathlib.Core.List.{List, [], _∷_, _++_, map, flatMap, append-assoc}
-use native.Mathlib.Nat.{le-refl}
 use native.Mathlib.Numerals.{add-one}
 use native.Mathlib.Omega.{arith}
 use lib.Ieee.{Float, nan}
 use lib.ListN.{length, getD, take, drop, length-append, length-map, length-take, length-drop, drop-of-length-le}
-use lib.Seq.{drop-cons, take-all}
+use lib.Seq.{drop-cons}
 use Rattle.labels.specs.declared.Glyph.{Glyph}
 use Rattle.labels.specs.declared.Cluster.{Cluster}
 use Rattle.labels.specs.Single.{+0}
@@ -16,16 +15,17 @@ use Rattle.labels.specs.Answer.{ClusterRow, glyphRowBytes, clusterRowBytes, clu
 use Rattle.labels.specs.Layout.{glyphRows, glyphsOf, clusterRow}
 use Rattle.laws.proofs.Numbers.{length-bytes}
 use Rattle.laws.proofs.AnswerLength.{length-floats, length-clusterRow, length-flatMap}
-use Rattle.job_rows.specs.Rows.{glyphsIn}
+use Rattle.job_rows.specs.Rows.{glyphsAt}
 use Rattle.job_rows.proofs.ByNumber.{map-in}
-use Rattle.clusters.specs.Clusters.{clusterOf, floatsOf, clustersOf}
-use Rattle.clusters.proofs.Rows.{clusters-length, clusters-at}
+use Rattle.clusters.specs.Clusters.{clusterOf, floatsOf}
 use Rattle.forming.proofs.Passing.{all-take, all-drop}
-use Rattle.forming.proofs.Glyphs.{map-take, glyphs-length}
+use Rattle.forming.proofs.Glyphs.{map-take}
 use Rattle.wire.specs.Splice.{splice}
+use Rattle.decoration.specs.Runs.{Tables, allClusters}
+use Rattle.decoration.proofs.Walks.{clusters-count, clusters-here}
 use Rattle.answer.specs.Glyphs.{unitsIn}
 use Rattle.answer.specs.Clusters.{clusterHeadBytes, clusterSize, clustersSize}
-use Rattle.answer.proofs.GlyphsLeft.{count-glyphRows}
+use Rattle.answer.proofs.GlyphsLeft.{glyphs-count, count-glyphRows}
 use Rattle.answer.proofs.Puts.{RowsLeft, row-room, row-turn, row-done}
 
 -- ---- ten floats of a row are those of its cluster
@@ -57,22 +57,28 @@ map-drop f zero l = refl
 map-drop f (suc n) [] = refl
 map-drop f (suc n) (x ∷ l) = map-drop f n l
 
-module _ (s rows : List ℕ) (count : ℕ) (places : List ℕ) (c : Cluster) (e : places ≡ take (c .count) (drop (c .from) (take count rows))) where
-  pub places-glyphs : glyphsIn s places (length places) ≡ glyphsOf (glyphsIn s rows count) c
-  unfolding glyphsIn
-  places-glyphs = rw (take-all (length places) places (le-refl _), e, map-drop, map-take)
+module _ (s merged places : List ℕ) (c : Cluster) (e : places ≡ take (c .count) (drop (c .from) merged)) where
+  abbrev gs : List Glyph
+  gs = glyphsAt s merged
 
-  pub places-length : length places ≡ length (glyphsOf (glyphsIn s rows count) c)
-  places-length = sym (glyphs-length s places (length places) (le-refl _)) ∙ ap length places-glyphs
+  pub places-glyphs : glyphsAt s places ≡ glyphsOf gs c
+  unfolding glyphsAt
+  places-glyphs = rw (e, map-drop, map-take)
 
-  pub places-ok : unitsIn (glyphsIn s rows count) ≡ true → unitsIn (glyphsIn s places (length places)) ≡ true
+  places-length : length places ≡ length (glyphsOf gs c)
+  places-length = sym (glyphs-count s places) ∙ ap length places-glyphs
+
+  pub places-ok : unitsIn gs ≡ true → unitsIn (glyphsAt s places) ≡ true
   places-ok h = rw places-glyphs (all-take _ (c .count) _ (all-drop _ (c .from) _ h))
 
   -- the row is what stands before the glyphs, and the glyphs
-  pub row-parts : (mode : ℕ)
-      → clusterRowBytes (clusterRow mode (glyphsIn s rows count) c) ≡ clusterHeadBytes mode c (length places) ++ flatMap glyphRowBytes (glyphRows +0 (glyphsIn s places (length places)))
+  pub row-parts : (mode : ℕ) → clusterRowBytes (clusterRow mode gs c) ≡ clusterHeadBytes mode c (length places) ++ flatMap glyphRowBytes (glyphRows +0 (glyphsAt s places))
   unfolding clusterRowBytes clusterRow clusterHeadBytes
-  row-parts mode = rw (places-glyphs, places-length, count-glyphRows +0 (glyphsOf (glyphsIn s rows count) c)) (simp append-assoc)
+  row-parts mode = rw (places-glyphs, places-length, count-glyphRows +0 (glyphsOf gs c)) (simp append-assoc)
+
+  pub row-of-places : (mode : ℕ) → clusterRowLength (clusterRow mode gs c) ≡ clusterRowSize (length places)
+  unfolding clusterRow
+  row-of-places mode = ap clusterRowSize (count-glyphRows +0 (glyphsOf gs c) ∙ sym places-length)
 
 pub length-head : (mode : ℕ) (c : Cluster) (glyphs : ℕ) → length (clusterHeadBytes mode c glyphs) ≡ clusterRowSize 0
 unfolding clusterHeadBytes
@@ -83,11 +89,6 @@ length-head mode c glyphs = simp (length-append, length-bytes, length-floats) (o
 row-length : (mode : ℕ) (gs : List Glyph) (c : Cluster) → clusterRowLength (clusterRow mode gs c) ≡ clusterRowSize (length (glyphsOf gs c))
 unfolding clusterRow
 row-length mode gs c = ap clusterRowSize (count-glyphRows +0 (glyphsOf gs c))
-
--- with the glyphs at `places`
-pub row-of-places : (s rows : List ℕ) (count : ℕ) (places : List ℕ) (c : Cluster) → places ≡ take (c .count) (drop (c .from) (take count rows)) → (mode : ℕ)
-    → clusterRowLength (clusterRow mode (glyphsIn s rows count) c) ≡ clusterRowSize (length places)
-row-of-places s rows count places c e mode = row-length mode (glyphsIn s rows count) c ∙ ap clusterRowSize (sym (places-length s rows count places c e))
 
 module _ (mode : ℕ) (gs : List Glyph) where
   module _ (count : ℕ) (e : length gs ≡ count) where
@@ -104,59 +105,60 @@ module _ (mode : ℕ) (gs : List Glyph) where
     pub length-rows : (cs : List Cluster) → length (flatMap clusterRowBytes (map (clusterRow mode gs) cs)) ≡ clustersSize count cs
     length-rows cs = length-flatMap clusterRowBytes clusterRowLength length-clusterRow (map (clusterRow mode gs) cs) ∙ rows-size cs
 
--- ---- the sizes of the stored clusters' rows, of which those from place i on are left
+-- ---- the sizes of the clusters' rows, of which those from place i on are left
 
-module _ (count : ℕ) (floats : List (List Float)) (words : List (List ℕ)) (n : ℕ) where
+module _ (count : ℕ) (floats : List (List Float)) (words : List (List ℕ)) where
   -- with what is added up so far
   abbrev pub sizeFrom : ℕ → ℕ → ℕ
-  sizeFrom size i = size + sum (map (clusterSize count) (drop i (clustersOf floats words n)))
+  sizeFrom size i = size + sum (map (clusterSize count) (drop i (allClusters floats words)))
 
-  pub size-start : sizeFrom 0 0 ≡ clustersSize count (clustersOf floats words n)
+  pub size-start : sizeFrom 0 0 ≡ clustersSize count (allClusters floats words)
   unfolding clustersSize
   size-start = omega arith
 
-  pub size-turn : n ≤ length floats → n ≤ length words → (size i k : ℕ) (c : Cluster) → c ≡ clusterOf (getD floats i []) (getD words i []) → i < n → k ≡ clusterSize count c → sizeFrom (size + k) (i + 1) ≡ sizeFrom size i
-  size-turn p q size i k c ec h ek =
-      let cs = clustersOf floats words n in
-      let e : getD cs i c ≡ c = clusters-at floats words n i c h p q ∙ sym ec in
-      let next = rw e at (sum-next (clusterSize count) cs i c (rw (clusters-length floats words n p q) h)) in
-      omega arith
+  module _ (t : Tables floats words) (size i : ℕ) where
+    pub size-turn : {k : ℕ} {c : Cluster} → c ≡ clusterOf (getD floats i []) (getD words i []) → i < length words → k ≡ clusterSize count c → sizeFrom (size + k) (i + 1) ≡ sizeFrom size i
+    size-turn {c = c} ec h ek =
+        let cs = allClusters floats words in
+        let next = rw (clusters-here t i c h, ← ec) at (sum-next (clusterSize count) cs i c (rw (clusters-count t) h)) in
+        omega arith
 
-  pub size-end : n ≤ length floats → n ≤ length words → (size i : ℕ) → n ≤ i → sizeFrom size i ≡ size
-  size-end p q size i h = rw (sum-end (clusterSize count) (clustersOf floats words n) i (rw (clusters-length floats words n p q) h)) (omega arith)
+    pub size-end : length words ≤ i → sizeFrom size i ≡ size
+    size-end h = rw (sum-end (clusterSize count) (allClusters floats words) i (rw (clusters-count t) h)) (omega arith)
 
--- ---- the rows of the stored clusters, of which those from place i on are left
+-- ---- the rows of the clusters, of which those from place i on are left
 
-module _ (mode : ℕ) (gs : List Glyph) (floats : List (List Float)) (words : List (List ℕ)) (n : ℕ) where
+module _ (mode : ℕ) (gs : List Glyph) (floats : List (List Float)) (words : List (List ℕ)) where
   abbrev rowsOf : List ClusterRow
-  rowsOf = map (clusterRow mode gs) (clustersOf floats words n)
+  rowsOf = map (clusterRow mode gs) (allClusters floats words)
 
   abbrev pub ClustersLeft : List ℕ → ℕ → List ℕ → ℕ → ℕ → Type 0
   ClustersLeft old at out here i = RowsLeft clusterRowBytes rowsOf old at out here i
 
-  module _ (p : n ≤ length floats) (q : n ≤ length words) where
-    count-rows : length rowsOf ≡ n
-    count-rows = length-map (clustersOf floats words n) (clusterRow mode gs) ∙ clusters-length floats words n p q
+  module _ (t : Tables floats words) where
+    pub count-rows : length rowsOf ≡ length words
+    count-rows = length-map (allClusters floats words) (clusterRow mode gs) ∙ clusters-count t
 
     module _ {old : List ℕ} {at : ℕ} {out : List ℕ} {here : ℕ} (i : ℕ) (left : ClustersLeft old at out here i) where
-      module _ (c : Cluster) (ec : c ≡ clusterOf (getD floats i []) (getD words i [])) (h : i < n) where
+      module _ (h : i < length words) where
+        abbrev row : ClusterRow
+        row = clusterRow mode gs (clusterOf (getD floats i []) (getD words i []))
+
         before-end : i < length rowsOf
         before-end = rw count-rows h
 
-        is-row : getD rowsOf i (clusterRow mode gs c) ≡ clusterRow mode gs c
+        is-row : getD rowsOf i row ≡ row
         is-row =
-            map-in (clusterRow mode gs) (clustersOf floats words n) i c (clusterRow mode gs c) (rw (clusters-length floats words n p q) h)
-            ∙ ap (clusterRow mode gs) (clusters-at floats words n i c h p q ∙ sym ec)
+            let c = clusterOf (getD floats i []) (getD words i []) in
+            map-in (clusterRow mode gs) (allClusters floats words) i c row (rw (clusters-count t) h) ∙ ap (clusterRow mode gs) (clusters-here t i c h)
 
-        pub cluster-room : here + clusterRowLength (clusterRow mode gs c) ≤ length out
+        pub cluster-room : here + clusterRowLength row ≤ length out
         cluster-room =
-            let room : here + length (clusterRowBytes (clusterRow mode gs c)) ≤ length out = rw is-row at (row-room clusterRowBytes rowsOf i left (clusterRow mode gs c) before-end) in
-            omega (arith, length-clusterRow (clusterRow mode gs c))
+            let room : here + length (clusterRowBytes row) ≤ length out = rw is-row at (row-room clusterRowBytes rowsOf i left row before-end) in
+            omega (arith, length-clusterRow row)
 
-        pub cluster-turn : {out′ : List ℕ} {here′ : ℕ} → out′ ≡ splice out here (clusterRowBytes (clusterRow mode gs c)) → here′ ≡ here + clusterRowLength (clusterRow mode gs c)
-            → ClustersLeft old at out′ here′ (i + 1)
-        cluster-turn eo eh =
-            row-turn clusterRowBytes rowsOf i left (clusterRow mode gs c) before-end (rw is-row eo) (rw (is-row, length-clusterRow) eh)
+        pub cluster-turn : {out′ : List ℕ} {here′ : ℕ} → out′ ≡ splice out here (clusterRowBytes row) → here′ ≡ here + clusterRowLength row → ClustersLeft old at out′ here′ (i + 1)
+        cluster-turn eo eh = row-turn clusterRowBytes rowsOf i left row before-end (rw is-row eo) (rw (is-row, length-clusterRow) eh)
 
-      pub clusters-done : n ≤ i → (out ≡ splice old at (flatMap clusterRowBytes rowsOf)) × (here ≡ at + length (flatMap clusterRowBytes rowsOf))
+      pub clusters-done : length words ≤ i → (out ≡ splice old at (flatMap clusterRowBytes rowsOf)) × (here ≡ at + length (flatMap clusterRowBytes rowsOf))
       clusters-done h = row-done clusterRowBytes rowsOf i left (rw count-rows h)

@@ -1,10 +1,12 @@
 -- Glyph rows put one after the other: the next one, and the end. Assumes nothing.
 use Prim.Native.Nat.{ℕ, suc, _+_, _*_, _≤_, _<_}
 use mathlib.Core.Path.{_≡_, refl, ap, _∙_}
-use mathlib.Core.Bool.{true, _&&_}
+use mathlib.Core.Bool.{true}
 use mathlib.Core.List.{List, [], _∷_, _++_, flatMap}
+use native.Mathlib.Nat.{le-refl}
 use native.Mathlib.Omega.{arith}
-use lib.ListN.{length, getD, drop}
+use lib.ListN.{length, getD, drop, length-map, drop-of-length-le}
+use lib.Seq.{take-length}
 use lib.Ieee.{Float, binary32, ofInt}
 use Rattle.labels.specs.declared.Glyph.{Glyph}
 use Rattle.labels.specs.Single.{_+ᶠ_, +0}
@@ -14,7 +16,7 @@ use Rattle.labels.specs.Answer.{glyphRowBytes, glyphRowSize}
 use Rattle.labels.specs.Layout.{glyphRows}
 use Rattle.laws.proofs.All.{and-left, and-right}
 use Rattle.laws.proofs.AnswerLength.{length-glyphRow, length-equal}
-use Rattle.job_rows.specs.Rows.{glyphsIn}
+use Rattle.job_rows.specs.Rows.{glyphsAt, glyphsIn}
 use Rattle.forming.proofs.Glyphs.{glyph-next}
 use Rattle.forming.proofs.Passing.{all-first, all-rest}
 use Rattle.wire.specs.Splice.{splice}
@@ -42,9 +44,20 @@ module _ (g : Glyph) (h : unitsOf g ≡ true) where
 
 -- ---- the glyph that is read at place i is the next
 
-pub glyph-here : (s places : List ℕ) (n i at : ℕ) → at ≡ getD places i 0 → i < n → n ≤ length places
-    → drop i (glyphsIn s places n) ≡ glyphOf (drop at s) ∷ drop (i + 1) (glyphsIn s places n)
-glyph-here s places n i at e h k = rw e (glyph-next s places n i h k)
+module _ (s places : List ℕ) where
+  all-glyphs : glyphsIn s places (length places) ≡ glyphsAt s places
+  unfolding glyphsIn
+  all-glyphs = ap (glyphsAt s) (take-length places)
+
+  pub glyphs-count : length (glyphsAt s places) ≡ length places
+  unfolding glyphsAt
+  glyphs-count = length-map places _
+
+  pub glyph-here : (i at : ℕ) → at ≡ getD places i 0 → i < length places → drop i (glyphsAt s places) ≡ glyphOf (drop at s) ∷ drop (i + 1) (glyphsAt s places)
+  glyph-here i at e h = rw e (rw all-glyphs at (glyph-next s places (length places) i h (le-refl _)))
+
+  pub no-glyph : (i : ℕ) → length places ≤ i → drop i (glyphsAt s places) ≡ []
+  no-glyph i h = drop-of-length-le (glyphsAt s places) {i = i} (rw glyphs-count h)
 
 -- ---- how long they are
 

@@ -4,6 +4,5 @@ pub mod GlyphsLeft
 pub mod Most
 pub mod RowMost
 pub mod ClusterRows
-pub mod RunRows
 pub mod SpanRows
 pub mod ChunkRows

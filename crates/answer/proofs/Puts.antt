@@ -1,13 +1,25 @@
 -- Bytes put one part after the other: what is left is still to be put, right behind what was. Assumes nothing.
 use Prim.Native.Nat.{ℕ, _+_, _≤_, _<_}
 use mathlib.Core.Path.{_≡_, refl, sym, ap, _∙_}
-use mathlib.Core.List.{List, [], _++_, flatMap}
+use mathlib.Core.List.{List, [], _++_, flatMap, append-assoc}
 use native.Mathlib.Numerals.{add-one}
 use native.Mathlib.Omega.{arith}
-use lib.ListN.{length, getD, drop, length-append, drop-of-length-le}
-use lib.Seq.{drop-cons}
+use lib.ListN.{length, getD, take, drop, length-append, drop-of-length-le}
+use lib.Seq.{drop-cons, drop-at, take-append-le, take-take, length-take-le}
 use Rattle.wire.specs.Splice.{splice}
 use Rattle.wire.proofs.Splice.{splice-none, splice-next, length-splice}
+
+-- what is put right before is put with it
+pub splice-before : {A : Type 0} (l : List A) (at : ℕ) (a : List A) (k : ℕ) (b : List A) → k ≡ at + length a → at + (length a + length b) ≤ length l
+    → splice (splice l k b) at a ≡ splice l at (a ++ b)
+unfolding splice
+splice-before l at a k b e h =
+    let t : length (take k l) ≡ k = length-take-le k l (omega arith) in
+    let rest : List _ = b ++ drop (k + length b) l in
+    let front : take at (take k l ++ rest) ≡ take at l = take-append-le at (take k l) rest (omega arith) ∙ take-take at k l (omega arith) in
+    let behind : drop (at + length a) (take k l ++ rest) ≡ rest = drop-at (take k l) rest (at + length a) (omega arith) in
+    let n : k + length b ≡ at + length (a ++ b) = simp length-append (omega arith) in
+    rw (front, behind, n) (simp append-assoc)
 
 -- `bs` is to be put into `old` at `at`: `out` is the buffer as it stands, and `left` is still to be put, at `here`
 pub record Putting {A : Type 0} (old : List A) (at : ℕ) (bs out : List A) (here : ℕ) (left : List A) : Type 0 where

@@ -1,6 +1,6 @@
 -- A span row from its parts; the rows of a list of spans, span by span. Assumes nothing.
 use Prim.Native.Nat.{ℕ, suc, _+_, _*_, _≤_, _<_}
-use mathlib.Core.Path.{_≡_, refl, sym, ap, _∙_}
+use mathlib.Core.Path.{_≡_, refl, ap, _∙_}
 use mathlib.Core.Bool.{Bool, true, false, cond}
 use mathlib.Core.List.{List, [], _∷_, _++_, map, flatMap, append-nil, append-assoc}
 use native.Mathlib.Omega.{arith}
@@ -18,16 +18,15 @@ use Rattle.labels.specs.Job.{Job, SpanParts, noFont}
 use Rattle.labels.specs.Decode.{spanOf, partsOf}
 use Rattle.labels.specs.Decoration.{collectDecorationSpans}
 use Rattle.labels.specs.Layout.{spanRow, spanRows}
-use Rattle.labels.specs.Answer.{SpanRow, runBytes, spanRowBytes, spanRowLength, sum}
+use Rattle.labels.specs.Answer.{SpanRow, runBytes, spanRowSize, spanRowBytes, spanRowLength, sum}
 use Rattle.laws.proofs.Numbers.{length-bytes}
 use Rattle.laws.proofs.AnswerLength.{length-flatMap, length-floats, length-spanRow}
 use Rattle.wire.specs.Splice.{splice}
-use Rattle.wire.proofs.Splice.{splice-then}
 use Rattle.job_rows.specs.Rows.{partsIn}
 use Rattle.job_rows.proofs.ByNumber.{map-in}
-use Rattle.decoration.specs.Runs.{runsIn}
-use Rattle.answer.specs.Spans.{jobWith, rowFloats, spanHeadBytes, hasRow}
-use Rattle.answer.proofs.RunRows.{length-runs, runs-count}
+use Rattle.decoration.proofs.Runs.{flatMap-append, length-runs}
+use Rattle.answer.specs.Spans.{rowFloats, spanHeadBytes, hasRow}
+use Rattle.answer.proofs.Puts.{splice-before}
 
 -- ---- a row: what comes before its runs, and the runs
 
@@ -35,36 +34,30 @@ row-bytes : (row : SpanRow) → spanHeadBytes (row .index) (rowFloats row) (leng
 unfolding spanRowBytes
 row-bytes row = simp append-assoc
 
-pub row-put : (out : List ℕ) (at : ℕ) (row : SpanRow) {out₁ out₂ : List ℕ} {values : List Float} {runs : List Run} {n behind : ℕ}
-    → values ≡ rowFloats row → runs ≡ row .runs → length (row .runs) ≡ n → behind ≡ at + 31
-    → out₁ ≡ splice out at (spanHeadBytes (row .index) values n) → out₂ ≡ splice out₁ behind (flatMap runBytes runs)
+-- the runs are put, and then what comes before them
+pub row-put : (out : List ℕ) (at : ℕ) (row : SpanRow) {out₁ out₂ : List ℕ} {values : List Float} {runs : List Run} {n : ℕ}
+    → values ≡ rowFloats row → runs ≡ row .runs → n ≡ length runs
+    → out₁ ≡ splice out (at + spanRowSize 0) (flatMap runBytes runs) → out₂ ≡ splice out₁ at (spanHeadBytes (row .index) values n)
     → at + spanRowLength row ≤ length out → out₂ ≡ splice out at (spanRowBytes row)
-row-put out at row ev er en eb e₁ e₂ room =
+row-put out at row ev er en e₁ e₂ room =
     let head = spanHeadBytes (row .index) (rowFloats row) (length (row .runs)) in
     let rest = flatMap runBytes (row .runs) in
     let l : length head ≡ 31 = simp (length-append, length-bytes, length-floats) in
     let m : length rest ≡ 6 * length (row .runs) = length-runs (row .runs) in
-    splice-then out at head _ rest (rw (ev, ← en) at e₁) (rw er at e₂) (omega arith) (omega arith) ∙ ap (splice out at) (row-bytes row)
+    rw (ev, en, er) at e₂ ∙ ap (λ (o : List ℕ). splice o at head) (rw er at e₁) ∙ splice-before out at head _ rest (omega arith) (omega arith) ∙ ap (splice out at) (row-bytes row)
 
--- the runs that were collected are the row's: as many as were counted, and the two lists have them all
-pub row-runs : (j : Job) (origin : Point) (cs : List Cluster) (k : ℕ) (s : List ℕ) (place : ℕ) (firsts : List ℕ) (widths : List Float) (r : ℕ) {span : Span} {n f w : ℕ}
-    → span ≡ spanOf (drop place s) → (r ≤ n) × (runsIn firsts widths r ≡ collectDecorationSpans span cs) → n ≤ f → length firsts ≡ f → n ≤ w → length widths ≡ w
-    → let runs = spanRow j origin cs k (partsOf (drop place s)) .runs in (r ≤ length firsts) × (r ≤ length widths) × (length runs ≡ r) × (runsIn firsts widths r ≡ runs)
-unfolding spanRow partsOf
-row-runs j origin cs k s place firsts widths r es h f ef w ew =
-    let p : r ≤ length firsts = omega (arith, h .0) in
-    let q : r ≤ length widths = omega (arith, h .0) in
-    let e : runsIn firsts widths r ≡ collectDecorationSpans (spanOf (drop place s)) cs = rw (h .1, es) refl in
-    (p, q, ap length (sym e) ∙ runs-count firsts widths r p q, e)
+-- the row's runs are those of the span that was read
+module _ (j : Job) (origin : Point) (cs : List Cluster) (k : ℕ) (s : List ℕ) (place : ℕ) {span : Span} (e : span ≡ spanOf (drop place s)) where
+  pub row-runs : collectDecorationSpans span cs ≡ spanRow j origin cs k (partsOf (drop place s)) .runs
+  unfolding spanRow partsOf
+  row-runs = ap (λ (sp : Span). collectDecorationSpans sp cs) e
+
+  pub run-count : length (collectDecorationSpans span cs) ≡ length (spanRow j origin cs k (partsOf (drop place s)) .runs)
+  run-count = ap length row-runs
 
 -- ---- rows one after the other
 
 module _ {A : Type 0} where
-  flatMap-append : {B : Type 0} (f : A → List B) (xs ys : List A) → flatMap f (xs ++ ys) ≡ flatMap f xs ++ flatMap f ys
-  unfolding flatMap
-  flatMap-append f [] ys = refl
-  flatMap-append f (x ∷ xs) ys = ap (λ l. f x ++ l) (flatMap-append f xs ys) ∙ sym (append-assoc (f x) (flatMap f xs) (flatMap f ys))
-
   sum-append : (size : A → ℕ) (xs ys : List A) → sum (map size (xs ++ ys)) ≡ sum (map size xs) + sum (map size ys)
   sum-append size [] ys = omega arith
   sum-append size (x ∷ xs) ys = let e = sum-append size xs ys in omega (arith, e)
@@ -73,12 +66,6 @@ pub length-rows : (rows : List SpanRow) → length (flatMap spanRowBytes rows) �
 length-rows = length-flatMap spanRowBytes spanRowLength length-spanRow
 
 -- ---- the rows of spans
-
--- what a row is made of looks at the mode and the fonts alone
-pub rows-of-job : (j : Job) (origin : Point) (cs : List Cluster) (k : ℕ) (ps : List SpanParts) → spanRows (jobWith (j .mode) (j .fonts)) origin cs k ps ≡ spanRows j origin cs k ps
-unfolding spanRows spanRow
-rows-of-job j origin cs k [] = refl
-rows-of-job j origin cs k (p ∷ ps) = rw (rows-of-job j origin cs (k + 1) ps)
 
 module _ (j : Job) (origin : Point) (cs : List Cluster) where
   pub one-row : (k : ℕ) (p : SpanParts) → hasRow p ≡ true → spanRows j origin cs k (p ∷ []) ≡ spanRow j origin cs k p ∷ []

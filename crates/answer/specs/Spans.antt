@@ -4,14 +4,9 @@ use mathlib.Core.Bool.{Bool, not}
 use mathlib.Core.List.{List, [], _∷_, _++_, flatMap}
 use lib.Dec.{eqb}
 use lib.Ieee.{Float}
-use Rattle.labels.specs.declared.Font.{Font}
 use Rattle.labels.specs.Bytes.{bytes, floatBytes}
-use Rattle.labels.specs.Job.{Job, SpanParts, noFont}
+use Rattle.labels.specs.Job.{SpanParts, noFont}
 use Rattle.labels.specs.Answer.{SpanRow}
-
--- a job of that writing mode and those fonts, with no lists and no chunks: a span row looks at nothing else of its job
-abbrev pub jobWith : ℕ → List Font → Job
-jobWith mode fonts = record { mode = mode; fonts = fonts; dx = []; dy = []; rotate = []; chunks = [] }
 
 -- a row's floats, as they are written
 abbrev pub rowFloats : SpanRow → List Float

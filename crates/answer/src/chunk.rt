@@ -1,33 +1,37 @@
 // A chunk's row: its head, its clusters' rows, its spans' rows.
 use crate::cluster::cluster_rows_length;
 use crate::cluster::put_cluster_rows;
-use crate::sizes::CHUNK_HEAD_BYTES;
-use crate::sizes::CLUSTER_COUNT_BYTES;
-use crate::sizes::CLUSTER_ROW_BYTES;
-use crate::sizes::GLYPH_ROW_BYTES;
-use crate::sizes::PEN_X_AT;
-use crate::sizes::PEN_Y_AT;
-use crate::sizes::RUN_BYTES;
-use crate::sizes::RUNS_AT;
-use crate::sizes::SPAN_COUNT_AT;
-use crate::sizes::SPAN_COUNT_BYTES;
 use crate::spans::put_span_rows;
 use crate::spans::span_row_count;
 use crate::spans::span_rows_length;
+use answer_format::CHUNK_HEAD_BYTES;
+use answer_format::CLUSTER_COUNT_BYTES;
+use answer_format::CLUSTER_ROW_BYTES;
+use answer_format::GLYPH_ROW_BYTES;
+use answer_format::PEN_X_AT;
+use answer_format::PEN_Y_AT;
+use answer_format::RUN_BYTES;
+use answer_format::RUNS_AT;
+use answer_format::SPAN_COUNT_AT;
+use answer_format::SPAN_COUNT_BYTES;
+use labels::Job;
 use labels::Point;
 use wire::write::put_f32;
 use wire::write::put_number;
 ghost use mathlib.Core.Path.{_≡_};
-ghost use mathlib.Core.Bool.{true};
 ghost use Prim.Native.Nat.{_+_, _≤_};
 ghost use lib.ListN.{length};
-ghost use Rattle.labels.specs.Answer.{chunkHeadSize, chunkRowBytes, chunkRowLength};
-ghost use Rattle.job_rows.specs.Rows.{fontsIn, glyphsIn, partsIn};
-ghost use Rattle.clusters.specs.Clusters.{clustersOf};
+ghost use Rattle.labels.specs.Answer.{chunkHeadSize, chunkRowBytes};
+ghost use Rattle.job_rows.specs.Rows.{partsIn};
+ghost use Rattle.decoration.specs.Runs.{Tables, allClusters};
 ghost use Rattle.wire.specs.Splice.{splice};
-ghost use Rattle.answer.specs.Glyphs.{unitsIn};
-ghost use Rattle.answer.specs.Spans.{jobWith};
-ghost use Rattle.answer.specs.Chunks.{chunkRow, RowLength, chunkRowMost, chunkHeadBytes};
+ghost use Rattle.answer.specs.Chunks.{rowAt, RowLength, chunkRowMost, chunkHeadBytes, Writable, RowWritten, emptyRow};
+
+// Where a chunk begins, and where it leaves the pen.
+pub struct Frame {
+    pub origin: Point,
+    pub pen: Point,
+}
 
 // With so many cluster rows and span rows, and the pen as it is after the chunk.
 fn put_chunk_head(out: &mut [u8], at: usize, clusters: usize, spans: usize, pen: Point)
@@ -41,27 +45,23 @@ fn put_chunk_head(out: &mut [u8], at: usize, clusters: usize, spans: usize, pen:
 }
 
 // How many bytes the row has: in any job, wherever origin and pen are.
-pub fn chunk_row_length(
+fn chunk_row_length(
     s: &[u8],
     spans: &[usize],
     count: usize,
     floats: &[[f32; 10]],
     words: &[[u32; 6]],
-    n: usize,
-    firsts: &mut [u32],
-    widths: &mut [f32],
 ) -> usize
-    requires { ⌜ (n ≤ 65_535) × (n ≤ length (now floats)) × (n ≤ length (now words)) × (n ≤ length (now firsts)) × (n ≤ length (now widths))
-        × (length (now spans) ≤ 255) × (count ≤ 65_536) ⌝ }
-    ensures { λ r. ⌜ RowLength r count (clustersOf (now (floats .entry)) (now (words .entry)) n) (partsIn (now (s .entry)) (now (spans .entry))) ⌝ }
+    requires { ⌜ Tables (now floats) (now words) × (length (now spans) ≤ 255) × (count ≤ 65_536) ⌝ }
+    ensures { λ r. ⌜ RowLength r count (allClusters (now (floats .entry)) (now (words .entry))) (partsIn (now (s .entry)) (now (spans .entry))) ⌝ }
 {
-    let clusters = cluster_rows_length(count, floats, words, n);
-    CHUNK_HEAD_BYTES + clusters + span_rows_length(s, spans, floats, words, n, firsts, widths)
+    let clusters = cluster_rows_length(count, floats, words);
+    CHUNK_HEAD_BYTES + clusters + span_rows_length(s, spans, floats, words)
 }
 
 // No row is longer: its `n` clusters share the `count` merged glyphs, and no two of its `spans` spans cover one byte, so that all spans together
 // have no more runs than there are clusters.
-pub fn chunk_row_most(spans: usize, count: usize, n: usize) -> usize
+fn chunk_row_most(spans: usize, count: usize, n: usize) -> usize
     requires { ⌜ (n ≤ 65_535) × (spans ≤ 255) × (count ≤ 65_536) ⌝ }
     ensures { λ r. ⌜ r ≡ chunkRowMost spans count n ⌝ }
 {
@@ -69,48 +69,44 @@ pub fn chunk_row_most(spans: usize, count: usize, n: usize) -> usize
     CHUNK_HEAD_BYTES + clusters + GLYPH_ROW_BYTES * count + RUNS_AT * spans
 }
 
-// The row is put, and the place behind it is given.
-pub fn put_chunk_row(
+// The chunk's row at `at`, if it ends within `out`; else `out` stays as it was. How long the row is.
+pub fn write_chunk_row(
     out: &mut [u8],
     at: usize,
     s: &[u8],
-    mode: u8,
-    fonts: usize,
+    job: Job,
     spans: &[usize],
-    origin: Point,
-    pen: Point,
-    rows: &[u32],
-    count: usize,
+    merged: &[u32],
+    frame: Frame,
     floats: &[[f32; 10]],
     words: &[[u32; 6]],
-    n: usize,
-    firsts: &mut [u32],
-    widths: &mut [f32],
 ) -> usize
-    requires { ⌜ (n ≤ 65_535) × (n ≤ length (now floats)) × (n ≤ length (now words)) × (n ≤ length (now firsts)) × (n ≤ length (now widths))
-        × (length (now spans) ≤ 255) × (count ≤ 65_536) × (count ≤ length (now rows)) × (unitsIn (glyphsIn (now s) (now rows) count) ≡ true)
-        × (at + chunkRowLength (chunkRow (jobWith mode (fontsIn (now s) fonts)) origin pen (glyphsIn (now s) (now rows) count)
-        (clustersOf (now floats) (now words) n) (partsIn (now s) (now spans))) ≤ length (now out)) ⌝ }
-    ensures { λ r.
-        let row = chunkRow (jobWith mode (fontsIn (now (s .entry)) fonts)) origin pen (glyphsIn (now (s .entry)) (now (rows .entry)) count)
-        (clustersOf (now (floats .entry)) (now (words .entry)) n) (partsIn (now (s .entry)) (now (spans .entry))) in
-        ⌜ (now (out .exit) ≡ splice (now (out .entry)) at (chunkRowBytes row)) × (r ≡ at + chunkRowLength row) ⌝ }
+    requires { ⌜ Writable (now s) (now spans) (now merged) (now floats) (now words) × (at ≤ 4_294_967_296)
+        × (length (chunkRowBytes (rowAt (now s) job (now spans) (now merged) frame (now floats) (now words)))
+        ≤ chunkRowMost (length (now spans)) (length (now merged)) (length (now words))) ⌝ }
+    ensures { λ r. ⌜ RowWritten at r (now (out .entry)) (now (out .exit))
+        (rowAt (now (s .entry)) job (now (spans .entry)) (now (merged .entry)) frame (now (floats .entry)) (now (words .entry))) ⌝ }
 {
-    put_chunk_head(out, at, n, span_row_count(s, spans), pen);
+    // A row need not be measured if the longest that it can be ends within `out`.
+    if out.len() < at + chunk_row_most(spans.len(), merged.len(), words.len()) {
+        let length = chunk_row_length(s, spans, merged.len(), floats, words);
+        if out.len() < at + length {
+            return length;
+        }
+    }
+    put_chunk_head(out, at, words.len(), span_row_count(s, spans), frame.pen);
     let clusters = at + CHUNK_HEAD_BYTES;
-    let behind = put_cluster_rows(out, clusters, mode, s, rows, count, floats, words, n);
-    put_span_rows(
-        out,
-        behind,
-        s,
-        mode,
-        fonts,
-        spans,
-        origin,
-        floats,
-        words,
-        n,
-        firsts,
-        widths,
-    )
+    let behind = put_cluster_rows(out, clusters, job.mode, s, merged, floats, words);
+    put_span_rows(out, behind, s, job, spans, frame.origin, floats, words) - at
+}
+
+// The row of a chunk that has no cluster, and so no span rows: as `write_chunk_row`.
+pub fn write_empty_row(out: &mut [u8], at: usize, pen: Point) -> usize
+    requires { ⌜ at ≤ 4_294_967_296 ⌝ }
+    ensures { λ r. ⌜ RowWritten at r (now (out .entry)) (now (out .exit)) (emptyRow pen) ⌝ }
+{
+    if at + CHUNK_HEAD_BYTES <= out.len() {
+        put_chunk_head(out, at, 0, 0, pen);
+    }
+    CHUNK_HEAD_BYTES
 }

@@ -3,13 +3,13 @@ use crate::flags::flags_of;
 use crate::floats::put_floats;
 use crate::glyphs::glyph_places;
 use crate::glyphs::put_glyphs;
-use crate::sizes::CLUSTER_FLAGS_AT;
-use crate::sizes::CLUSTER_FLOATS_AT;
-use crate::sizes::CLUSTER_INDEX_BYTES;
-use crate::sizes::CLUSTER_ROW_BYTES;
-use crate::sizes::GLYPH_COUNT_AT;
-use crate::sizes::GLYPH_COUNT_BYTES;
-use crate::sizes::GLYPH_ROW_BYTES;
+use answer_format::CLUSTER_FLAGS_AT;
+use answer_format::CLUSTER_FLOATS_AT;
+use answer_format::CLUSTER_INDEX_BYTES;
+use answer_format::CLUSTER_ROW_BYTES;
+use answer_format::GLYPH_COUNT_AT;
+use answer_format::GLYPH_COUNT_BYTES;
+use answer_format::GLYPH_ROW_BYTES;
 use clusters::cluster_at;
 use clusters::cluster_of;
 use labels::Cluster;
@@ -22,9 +22,10 @@ ghost use Prim.Native.Nat.{_+_, _*_, _≤_};
 ghost use lib.ListN.{length};
 ghost use Rattle.labels.specs.Answer.{clusterRowBytes, clusterRowLength, clusterRowSize};
 ghost use Rattle.labels.specs.Layout.{clusterRow};
-ghost use Rattle.job_rows.specs.Rows.{glyphsIn};
-ghost use Rattle.clusters.specs.Clusters.{clusterOf, clustersOf};
+ghost use Rattle.job_rows.specs.Rows.{glyphsAt};
+ghost use Rattle.clusters.specs.Clusters.{clusterOf};
 ghost use Rattle.wire.specs.Splice.{splice};
+ghost use Rattle.decoration.specs.Runs.{Tables, allClusters};
 ghost use Rattle.answer.specs.Glyphs.{unitsIn};
 ghost use Rattle.answer.specs.Clusters.{clusterHeadBytes, glyphsWithin, clusterSize, clustersSize};
 
@@ -52,19 +53,15 @@ pub fn cluster_row_length(count: usize, c: Cluster) -> usize
     CLUSTER_ROW_BYTES + GLYPH_ROW_BYTES * glyphs_within(count, c)
 }
 
-// Of the first `n` clusters.
-pub fn cluster_rows_length(
-    count: usize,
-    floats: &[[f32; 10]],
-    words: &[[u32; 6]],
-    n: usize,
-) -> usize
-    requires { ⌜ (count ≤ 65_536) × (n ≤ 65_536) × (n ≤ length (now floats)) × (n ≤ length (now words)) ⌝ }
-    ensures { λ r. ⌜ (r ≡ clustersSize count (clustersOf (now (floats .entry)) (now (words .entry)) n)) × (r ≤ n * clusterRowSize count) ⌝ }
+// Of all clusters of the tables.
+pub fn cluster_rows_length(count: usize, floats: &[[f32; 10]], words: &[[u32; 6]]) -> usize
+    requires { ⌜ (count ≤ 65_536) × Tables (now floats) (now words) ⌝ }
+    ensures { λ r. ⌜ (r ≡ clustersSize count (allClusters (now (floats .entry)) (now (words .entry))))
+        × (r ≤ length (now (words .entry)) * clusterRowSize count) ⌝ }
 {
     let mut size: usize = 0;
     let mut i: usize = 0;
-    while i < n {
+    while i < words.len() {
         size += cluster_row_length(count, cluster_at(floats, words, i));
         i += 1;
     }
@@ -93,54 +90,50 @@ fn put_cluster_head(
     put_number(out, at + GLYPH_COUNT_AT, GLYPH_COUNT_BYTES, glyphs as u64);
 }
 
-// The row of a cluster whose glyphs stand among the first `count` of a merged list `rows`, the places of glyph rows in the record `s`. The result
-// is the place behind it.
+// The row of a cluster whose glyphs stand in the merged list, the places of glyph rows in the record `s`. The result is the place behind it.
 pub fn put_cluster_row(
     out: &mut [u8],
     at: usize,
     mode: u8,
     s: &[u8],
-    rows: &[u32],
-    count: usize,
+    merged: &[u32],
     floats: &[f32; 10],
     words: &[u32; 6],
 ) -> usize
-    requires { ⌜ (at + clusterRowLength (clusterRow mode (glyphsIn (now s) (now rows) count) (clusterOf (now floats) (now words))) ≤ length (now out))
-        × (count ≤ length (now rows)) × (unitsIn (glyphsIn (now s) (now rows) count) ≡ true) ⌝ }
+    requires { ⌜ (at + clusterRowLength (clusterRow mode (glyphsAt (now s) (now merged)) (clusterOf (now floats) (now words))) ≤ length (now out))
+        × (unitsIn (glyphsAt (now s) (now merged)) ≡ true) ⌝ }
     ensures { λ r.
-        let row = clusterRow mode (glyphsIn (now (s .entry)) (now (rows .entry)) count) (clusterOf (now (floats .entry)) (now (words .entry))) in
+        let row = clusterRow mode (glyphsAt (now (s .entry)) (now (merged .entry))) (clusterOf (now (floats .entry)) (now (words .entry))) in
         ⌜ (now (out .exit) ≡ splice (now (out .entry)) at (clusterRowBytes row)) × (r ≡ at + clusterRowLength row) ⌝ }
 {
     let c = cluster_of(*floats, *words);
-    let merged = &rows[..count];
     let places = glyph_places(merged, c.from as usize, c.count as usize);
     put_cluster_head(out, at, mode, floats, words, places.len());
     put_glyphs(out, at + CLUSTER_ROW_BYTES, s, places)
 }
 
-// The rows of the first `n` clusters; the result is the place behind them.
+// The rows of all clusters of the tables; the result is the place behind them.
 pub fn put_cluster_rows(
     out: &mut [u8],
     at: usize,
     mode: u8,
     s: &[u8],
-    rows: &[u32],
-    count: usize,
+    merged: &[u32],
     floats: &[[f32; 10]],
     words: &[[u32; 6]],
-    n: usize,
 ) -> usize
-    requires { ⌜ (at + clustersSize count (clustersOf (now floats) (now words) n) ≤ length (now out))
-        × (count ≤ 65_536) × (count ≤ length (now rows)) × (n ≤ length (now floats)) × (n ≤ length (now words))
-        × (unitsIn (glyphsIn (now s) (now rows) count) ≡ true) ⌝ }
-    ensures { λ r. ⌜ (now (out .exit) ≡ splice (now (out .entry)) at (flatMap clusterRowBytes
-        (map (clusterRow mode (glyphsIn (now (s .entry)) (now (rows .entry)) count)) (clustersOf (now (floats .entry)) (now (words .entry)) n))))
-        × (r ≡ at + clustersSize count (clustersOf (now (floats .entry)) (now (words .entry)) n)) ⌝ }
+    requires { ⌜ Tables (now floats) (now words) × (unitsIn (glyphsAt (now s) (now merged)) ≡ true)
+        × (at + clustersSize (length (now merged)) (allClusters (now floats) (now words)) ≤ length (now out)) ⌝ }
+    ensures { λ r.
+        let cs = allClusters (now (floats .entry)) (now (words .entry)) in
+        ⌜ (now (out .exit) ≡ splice (now (out .entry)) at (flatMap clusterRowBytes
+        (map (clusterRow mode (glyphsAt (now (s .entry)) (now (merged .entry)))) cs)))
+        × (r ≡ at + clustersSize (length (now (merged .entry))) cs) ⌝ }
 {
     let mut here = at;
     let mut i: usize = 0;
-    while i < n {
-        here = put_cluster_row(out, here, mode, s, rows, count, &floats[i], &words[i]);
+    while i < words.len() {
+        here = put_cluster_row(out, here, mode, s, merged, &floats[i], &words[i]);
         i += 1;
     }
     here

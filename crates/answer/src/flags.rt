@@ -1,13 +1,12 @@
 // The flags of a cluster row.
 use labels::Cluster;
+use labels::Job;
 ghost use mathlib.Core.Path.{_≡_};
 ghost use mathlib.Core.Bool.{cond};
 ghost use Prim.Native.Nat.{_≤_};
 ghost use lib.Dec.{eqb};
 ghost use Rattle.labels.specs.Job.{topToBottom};
 ghost use Rattle.labels.specs.Layout.{bit, flagsOf};
-
-pub const TOP_TO_BOTTOM: u8 = 1;
 
 pub const RELATIVE: u8 = 1;
 
@@ -31,7 +30,7 @@ fn flag(set: bool, value: u8) -> u8
 fn turn_flag(mode: u8, upright: bool) -> u8
     ensures { λ r. ⌜ (r ≡ cond (eqb mode topToBottom) (cond upright 2 4) 0) × (r ≤ 4) ⌝ }
 {
-    if mode != TOP_TO_BOTTOM {
+    if mode != Job::TOP_TO_BOTTOM {
         return 0;
     }
     if upright { UPRIGHT } else { SIDEWAYS }

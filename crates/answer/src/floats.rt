@@ -1,5 +1,5 @@
 // Floats one after the other.
-use crate::sizes::FLOAT_BYTES;
+use answer_format::FLOAT_BYTES;
 use wire::write::put_f32;
 ghost use mathlib.Core.Path.{_≡_};
 ghost use mathlib.Core.List.{flatMap};

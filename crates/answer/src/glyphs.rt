@@ -1,8 +1,8 @@
 // Glyph rows: a cluster's glyphs in order, each x from the widths before it.
-use crate::sizes::GLYPH_FONT_AT;
-use crate::sizes::GLYPH_ROW_BYTES;
-use crate::sizes::GLYPH_X_AT;
-use crate::sizes::GLYPH_Y_AT;
+use answer_format::GLYPH_FONT_AT;
+use answer_format::GLYPH_ROW_BYTES;
+use answer_format::GLYPH_X_AT;
+use answer_format::GLYPH_Y_AT;
 use forming::runs::place_in;
 use job_rows::rows::glyph_at;
 use job_rows::rows::glyph_of;
@@ -24,7 +24,7 @@ ghost use Rattle.labels.specs.Check.{unitsOk};
 ghost use Rattle.labels.specs.Decode.{glyphOf};
 ghost use Rattle.labels.specs.Answer.{glyphRowSize, glyphRowBytes};
 ghost use Rattle.labels.specs.Layout.{glyphRows};
-ghost use Rattle.job_rows.specs.Rows.{glyphsIn};
+ghost use Rattle.job_rows.specs.Rows.{glyphsAt};
 ghost use Rattle.wire.specs.Splice.{splice};
 ghost use Rattle.answer.specs.Glyphs.{glyphRow, unitsOf, unitsIn};
 
@@ -95,9 +95,9 @@ fn put_glyph_at(out: &mut [u8], at: usize, s: &[u8], place: usize, x: f32) -> f3
 // The rows of the glyphs at `places` in the record `s`; the result is the place behind them.
 pub fn put_glyphs(out: &mut [u8], at: usize, s: &[u8], places: &[u32]) -> usize
     requires { ⌜ (at + glyphRowSize * length (now places) ≤ length (now out))
-        × (unitsIn (glyphsIn (now s) (now places) (length (now places))) ≡ true) ⌝ }
+        × (unitsIn (glyphsAt (now s) (now places)) ≡ true) ⌝ }
     ensures { λ r. ⌜ (now (out .exit) ≡ splice (now (out .entry)) at
-        (flatMap glyphRowBytes (glyphRows +0 (glyphsIn (now (s .entry)) (now (places .entry)) (length (now (places .entry)))))))
+        (flatMap glyphRowBytes (glyphRows +0 (glyphsAt (now (s .entry)) (now (places .entry))))))
         × (r ≡ at + glyphRowSize * length (now (places .entry))) ⌝ }
 {
     let mut x: f32 = 0.0;

@@ -1,7 +1,7 @@
 // The answer before its chunks.
-use crate::sizes::CHUNK_COUNT_AT;
-use crate::sizes::LENGTH_BYTES;
-use crate::sizes::VERSION_AT;
+use answer_format::CHUNK_COUNT_AT;
+use answer_format::LENGTH_BYTES;
+use answer_format::VERSION_AT;
 use wire::write::put_number;
 use wire::write::put_u8;
 ghost use mathlib.Core.Path.{_≡_};

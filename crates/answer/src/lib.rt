@@ -5,7 +5,5 @@ pub mod flags;
 pub mod floats;
 pub mod glyphs;
 pub mod head;
-pub mod runs;
-pub mod sizes;
 pub mod span;
 pub mod spans;

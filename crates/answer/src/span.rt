@@ -1,19 +1,21 @@
 // The row of a span. A span with no font has none.
 use crate::floats::put_floats;
-use crate::runs::put_runs;
-use crate::sizes::RUN_BYTES;
-use crate::sizes::RUN_COUNT_AT;
-use crate::sizes::RUN_COUNT_BYTES;
-use crate::sizes::RUNS_AT;
-use crate::sizes::SPAN_FLOATS_AT;
+use answer_format::RUN_BYTES;
+use answer_format::RUN_COUNT_AT;
+use answer_format::RUN_COUNT_BYTES;
+use answer_format::RUNS_AT;
+use answer_format::SPAN_FLOATS_AT;
 use baseline::offset::over_offset;
 use baseline::offset::thickness;
 use baseline::offset::through_offset;
 use baseline::offset::under_offset;
 use baseline::resolve::resolve_baseline;
 use decoration::collect_decoration_spans;
+use decoration::count_runs;
 use job_rows::numbered::font_in;
 use job_rows::rows::span_at;
+use job_rows::sizes::SPAN_FONT_AT;
+use labels::Job;
 use labels::Point;
 use labels::Span;
 use wire::place::from;
@@ -24,39 +26,27 @@ ghost use mathlib.Core.Path.{_≡_};
 ghost use mathlib.Core.List.{List, [], _∷_, map, flatMap};
 ghost use Prim.Native.Nat.{ℕ, _+_, _*_, _≤_};
 ghost use lib.ListN.{length, drop};
-ghost use Rattle.labels.specs.Job.{Job};
+ghost use Rattle.labels.specs.Job as definitions;
 ghost use Rattle.labels.specs.Decode.{spanOf, partsOf};
 ghost use Rattle.labels.specs.declared.Cluster.{Cluster};
 ghost use Rattle.labels.specs.declared.Point.{Point};
 ghost use Rattle.labels.specs.Answer.{spanRowSize, spanRowBytes, spanRowLength, sum};
 ghost use Rattle.labels.specs.Layout.{spanRow, spanRows};
 ghost use Rattle.wire.specs.Splice.{splice};
-ghost use Rattle.job_rows.specs.Rows.{fontsIn};
-ghost use Rattle.clusters.specs.Clusters.{clustersOf};
-ghost use Rattle.answer.specs.Spans.{jobWith, rowFloats, spanHeadBytes, hasRow};
-
-// The font byte of a span with no font.
-pub const NO_FONT: u8 = 255;
-
-// Where the font byte stands in a span's record.
-const FONT_AT: usize = 4;
+ghost use Rattle.job_rows.specs.Rows.{jobAt};
+ghost use Rattle.decoration.specs.Runs.{Tables, allClusters};
+ghost use Rattle.answer.specs.Spans.{rowFloats, spanHeadBytes, hasRow};
 
 // ---- a row
 
 // The floats of the row of a span and its record, which stands at `place`; they are the same for any clusters and any index.
-fn span_row_floats(
-    s: &[u8],
-    mode: u8,
-    fonts: usize,
-    place: usize,
-    span: Span,
-    origin: Point,
-) -> [f32; 7]
+fn span_row_floats(s: &[u8], job: Job, place: usize, span: Span, origin: Point) -> [f32; 7]
     requires { ⌜ span ≡ spanOf (drop place (now s)) ⌝ }
     ensures { λ r. ⌜ ((cs : List Cluster) (k : ℕ)
-        → r ≡ rowFloats (spanRow (jobWith mode (fontsIn (now (s .entry)) fonts)) origin cs k (partsOf (drop place (now (s .entry)))))) ⌝ }
+        → r ≡ rowFloats (spanRow (jobAt (now (s .entry)) job) origin cs k (partsOf (drop place (now (s .entry)))))) ⌝ }
 {
-    let font = font_in(s, fonts, span.font);
+    let mode = job.mode;
+    let font = font_in(s, job.fonts, span.font);
     let shift = resolve_baseline(mode, font, span, s, place);
     let thick = thickness(font, span);
     let under = under_offset(mode, font, span);
@@ -82,31 +72,26 @@ fn put_span_row(
     out: &mut [u8],
     at: usize,
     s: &[u8],
-    mode: u8,
-    fonts: usize,
+    job: Job,
     place: usize,
     k: u8,
     origin: Point,
     floats: &[[f32; 10]],
     words: &[[u32; 6]],
-    n: usize,
-    firsts: &mut [u32],
-    widths: &mut [f32],
 ) -> usize
-    requires { ⌜ (n ≤ 65_535) × (n ≤ length (now floats)) × (n ≤ length (now words)) × (n ≤ length (now firsts)) × (n ≤ length (now widths))
-        × (at + spanRowLength (spanRow (jobWith mode (fontsIn (now s) fonts)) origin (clustersOf (now floats) (now words) n) k (partsOf (drop place (now s))))
+    requires { ⌜ Tables (now floats) (now words)
+        × (at + spanRowLength (spanRow (jobAt (now s) job) origin (allClusters (now floats) (now words)) k (partsOf (drop place (now s))))
         ≤ length (now out)) ⌝ }
     ensures { λ r.
-        let row = spanRow (jobWith mode (fontsIn (now (s .entry)) fonts)) origin (clustersOf (now (floats .entry)) (now (words .entry)) n) k
+        let row = spanRow (jobAt (now (s .entry)) job) origin (allClusters (now (floats .entry)) (now (words .entry))) k
         (partsOf (drop place (now (s .entry)))) in
         ⌜ (r ≡ at + spanRowLength row) × (now (out .exit) ≡ splice (now (out .entry)) at (spanRowBytes row)) ⌝ }
 {
     let span = span_at(s, place);
-    let values = span_row_floats(s, mode, fonts, place, span, origin);
-    let runs = collect_decoration_spans(span, floats, words, n, firsts, widths);
+    let values = span_row_floats(s, job, place, span, origin);
     let runs_at = at + RUNS_AT;
+    let runs = collect_decoration_spans(out, runs_at, span, floats, words);
     put_span_head(out, at, k, &values, runs);
-    put_runs(out, runs_at, firsts, widths, runs);
     runs_at + runs * RUN_BYTES
 }
 
@@ -115,12 +100,12 @@ fn put_span_row(
 fn has_row(s: &[u8], place: usize) -> bool
     ensures { λ r. ⌜ r ≡ hasRow (partsOf (drop place (now (s .entry)))) ⌝ }
 {
-    u8_at(from(s, place), FONT_AT) != NO_FONT
+    u8_at(from(s, place), SPAN_FONT_AT) != Span::NO_FONT
 }
 
 // How many rows.
 pub fn span_count(s: &[u8], place: usize) -> usize
-    ensures { λ r. ⌜ (r ≤ 1) × ((job : Job) (origin : Point) (cs : List Cluster) (k : ℕ)
+    ensures { λ r. ⌜ (r ≤ 1) × ((job : definitions.Job) (origin : Point) (cs : List Cluster) (k : ℕ)
         → r ≡ length (spanRows job origin cs k (partsOf (drop place (now (s .entry))) ∷ []))) ⌝ }
 {
     if has_row(s, place) {
@@ -130,22 +115,13 @@ pub fn span_count(s: &[u8], place: usize) -> usize
 }
 
 // How many bytes.
-pub fn span_length(
-    s: &[u8],
-    place: usize,
-    floats: &[[f32; 10]],
-    words: &[[u32; 6]],
-    n: usize,
-    firsts: &mut [u32],
-    widths: &mut [f32],
-) -> usize
-    requires { ⌜ (n ≤ 65_535) × (n ≤ length (now floats)) × (n ≤ length (now words)) × (n ≤ length (now firsts)) × (n ≤ length (now widths)) ⌝ }
-    ensures { λ r. ⌜ (r ≤ spanRowSize n) × ((job : Job) (origin : Point) (k : ℕ)
-        → r ≡ sum (map spanRowLength (spanRows job origin (clustersOf (now (floats .entry)) (now (words .entry)) n) k (partsOf (drop place (now (s .entry))) ∷ [])))) ⌝ }
+pub fn span_length(s: &[u8], place: usize, floats: &[[f32; 10]], words: &[[u32; 6]]) -> usize
+    requires { ⌜ Tables (now floats) (now words) ⌝ }
+    ensures { λ r. ⌜ (r ≤ spanRowSize (length (now (words .entry)))) × ((job : definitions.Job) (origin : Point) (k : ℕ)
+        → r ≡ sum (map spanRowLength (spanRows job origin (allClusters (now (floats .entry)) (now (words .entry))) k (partsOf (drop place (now (s .entry))) ∷ [])))) ⌝ }
 {
     if has_row(s, place) {
-        let count = collect_decoration_spans(span_at(s, place), floats, words, n, firsts, widths);
-        return RUNS_AT + count * RUN_BYTES;
+        return RUNS_AT + count_runs(span_at(s, place), floats, words) * RUN_BYTES;
     }
     0
 }
@@ -155,41 +131,23 @@ pub fn put_span(
     out: &mut [u8],
     at: usize,
     s: &[u8],
-    mode: u8,
-    fonts: usize,
+    job: Job,
     place: usize,
     k: u8,
     origin: Point,
     floats: &[[f32; 10]],
     words: &[[u32; 6]],
-    n: usize,
-    firsts: &mut [u32],
-    widths: &mut [f32],
 ) -> usize
-    requires { ⌜ (n ≤ 65_535) × (n ≤ length (now floats)) × (n ≤ length (now words)) × (n ≤ length (now firsts)) × (n ≤ length (now widths))
-        × (at + sum (map spanRowLength (spanRows (jobWith mode (fontsIn (now s) fonts)) origin (clustersOf (now floats) (now words) n) k (partsOf (drop place (now s)) ∷ [])))
+    requires { ⌜ Tables (now floats) (now words)
+        × (at + sum (map spanRowLength (spanRows (jobAt (now s) job) origin (allClusters (now floats) (now words)) k (partsOf (drop place (now s)) ∷ [])))
         ≤ length (now out)) ⌝ }
     ensures { λ r.
-        let rows = spanRows (jobWith mode (fontsIn (now (s .entry)) fonts)) origin (clustersOf (now (floats .entry)) (now (words .entry)) n) k
+        let rows = spanRows (jobAt (now (s .entry)) job) origin (allClusters (now (floats .entry)) (now (words .entry))) k
         (partsOf (drop place (now (s .entry))) ∷ []) in
         ⌜ (r ≡ at + sum (map spanRowLength rows)) × (now (out .exit) ≡ splice (now (out .entry)) at (flatMap spanRowBytes rows)) ⌝ }
 {
     if has_row(s, place) {
-        return put_span_row(
-            out,
-            at,
-            s,
-            mode,
-            fonts,
-            place,
-            k,
-            origin,
-            floats,
-            words,
-            n,
-            firsts,
-            widths,
-        );
+        return put_span_row(out, at, s, job, place, k, origin, floats, words);
     }
     at
 }

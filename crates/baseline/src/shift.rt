@@ -1,6 +1,7 @@
 // The baseline shifts of a span, and their sum.
 use job_rows::rows::shift_kind_at;
 use job_rows::rows::shift_number_at;
+use job_rows::sizes::SHIFT_BYTES;
 use labels::BaselineShift;
 use labels::Font;
 use measure::subscript_offset;
@@ -45,7 +46,7 @@ pub fn resolve_baseline_shift(s: &[u8], at: usize, n: usize, font: Font, size: f
     let mut k = n;
     while 0 < k {
         k -= 1;
-        sum = add_baseline_shift(font, size, baseline_shift_at(shifts, k * 5), sum);
+        sum = add_baseline_shift(font, size, baseline_shift_at(shifts, k * SHIFT_BYTES), sum);
     }
     sum
 }

@@ -1,3 +1,6 @@
-pub mod Kept
-pub mod Answers
-pub mod Definitions
+pub mod Checked
+pub mod Spans
+pub mod Merging
+pub mod Adjusted
+pub mod Placed
+pub mod RowLength

@@ -1,46 +1,61 @@
--- Steps 2 to 6 from what they read: the writing mode, the fonts, the text, the spans and the merged glyphs. A job's and a chunk's are
--- `collapsedClusters` and `adjustedClusters` of the definitions (proofs/Definitions). Definitions only.
-use Prim.Native.Nat.{ℕ, _≤_, _<_}
+-- The layout between two chunks as the code holds it, beside the definitions' progress; and what of the answer is written. Definitions only.
+use Prim.Native.Nat.{ℕ, _+_}
 use mathlib.Core.Path.{_≡_}
-use mathlib.Core.Bool.{true}
-use lib.ListN.{length, take}
-use mathlib.Core.List.{List, map}
-use Rattle.labels.specs.Outcome.{Outcome, refused, given}
-use Rattle.labels.specs.declared.Font.{Font}
-use Rattle.labels.specs.declared.Glyph.{Glyph}
-use Rattle.labels.specs.declared.Span.{Span}
-use Rattle.labels.specs.Group.{groups}
-use Rattle.labels.specs.Spacing.{applyLetterSpacing, applyWordSpacing}
+use mathlib.Core.List.{List, [], flatMap}
+use lib.ListN.{length}
+use Rattle.labels.specs.Outcome.{Outcome, refused, given, andThen}
 use Rattle.labels.specs.declared.Cluster.{Cluster}
-use Rattle.labels.specs.Cluster.{rounded, formGlyphClusters, applyWritingMode, applyLengthAdjust}
-use Rattle.labels.specs.Position.{logicalOrder}
-use Rattle.job_rows.specs.Rows.{glyphsIn}
-use Rattle.clusters.specs.Clusters.{indexesIn}
-use Rattle.forming.specs.Groups.{widthsOk, clustersIn}
-use Rattle.text_order.specs.Keys.{keyOf}
-use Rattle.chunk.specs.declared.Formed.{Formed}
-use Rattle.chunk.specs.declared.Formed.the-variants as F
+use Rattle.labels.specs.Job as definitions
+use Rattle.labels.specs.Answer.{chunkRowBytes}
+use Rattle.labels.specs.Layout as layout
+use Rattle.labels.specs.Layout.{rowsOf, adjustedClusters, placeChunk, layoutChunk}
+use Rattle.job_rows.specs.Rows.{jobAt, chunkAt, glyphsAt}
+use Rattle.answer.specs.Chunks.{putWithin}
+use Rattle.chunk.specs.declared.progress.Progress.{Progress}
+use Rattle.chunk.specs.declared.progress.NextChunk.{NextChunk}
+use Rattle.chunk.specs.declared.progress.Laid.{Laid}
+use Rattle.chunk.specs.declared.progress.Laid.the-variants.{Going, Refused}
 
--- what steps 2 to 6 ask for: few merged glyphs, whose widths are in range, few spans, and room for all clusters in the lists of floats, words,
--- places and spare places, which are so long
-abbrev pub Formable : (s spans rows : List ℕ) (count floats words order spare : ℕ) → Type 0
-Formable s spans rows count floats words order spare =
-    (count ≤ length rows) × (clustersIn s spans rows count ≤ floats) × (clustersIn s spans rows count ≤ words) × (clustersIn s spans rows count ≤ order)
-    × (clustersIn s spans rows count ≤ spare) × (count ≤ 1_024) × (length spans < 256) × (widthsOk (glyphsIn s rows count) ≡ true)
+-- the next chunk of the record s, and its job
+abbrev pub chunkIn : List ℕ → NextChunk → definitions.Chunk
+chunkIn s next = chunkAt s (next .job) (next .at)
 
-unfoldable pub collapsedFrom : ℕ → List Font → List Span → List Glyph → List Cluster
-collapsedFrom mode fonts spans gs =
-    applyLetterSpacing rounded spans (applyWritingMode mode (map (formGlyphClusters fonts spans) (groups spans gs)))
+abbrev pub jobIn : List ℕ → NextChunk → definitions.Job
+jobIn s next = jobAt s (next .job)
 
-unfoldable pub adjustedFrom : ℕ → List Font → List ℕ → List Span → List Glyph → Outcome (List Cluster)
-adjustedFrom mode fonts text spans gs = applyLengthAdjust spans (applyWordSpacing rounded text spans (collapsedFrom mode fonts spans gs))
+-- the definitions' progress, of which no chunk is held
+abbrev pub progressOf : Progress → layout.Progress
+progressOf p = record { pen = p .pen; offset = p .offset; extent = p .extent; chunks = [] }
 
--- the answer to a chunk's steps 2 to 6, with the clusters that the first n rows hold
-unfoldable pub formedOf : Formed → (ℕ → List Cluster) → Outcome (List Cluster)
-formedOf (F.Clusters n) rows = given (rows n)
-formedOf (F.Refused k) rows = refused k
+-- the bytes of the chunks that are laid out
+unfoldable pub laidBytes : layout.Progress → List ℕ
+laidBytes st = flatMap chunkRowBytes (rowsOf (st .chunks))
 
--- ready for step 7: there are at most `most` clusters, and the text order is that of the byte indexes that the words hold
-abbrev pub Ready : Formed → ℕ → List ℕ → List (List ℕ) → Type 0
-Ready (F.Clusters n) most order words = (n ≤ most) × (take n order ≡ map keyOf (logicalOrder (indexesIn words n)))
-Ready (F.Refused k) most order words = Unit {0}
+-- the progress behind those chunks, if n bytes of the answer come before them
+unfoldable pub progressFrom : ℕ → layout.Progress → Progress
+progressFrom n st = record { pen = st .pen; offset = st .offset; length = n + length (laidBytes st); extent = st .extent }
+
+unfoldable pub laidFrom : ℕ → Outcome layout.Progress → Laid
+laidFrom n (refused k) = Refused k
+laidFrom n (given st) = Going (progressFrom n st)
+
+-- the buffer with those chunks' bytes from n on, if they end within it; a refusal leaves it as it was
+unfoldable pub putFrom : List ℕ → ℕ → Outcome layout.Progress → List ℕ
+putFrom out n (refused k) = out
+putFrom out n (given st) = putWithin out n (laidBytes st)
+
+-- the call returned r and left the buffer as `new`, and both are those of an outcome
+pub record ChunkLaid (before : Progress) (r : Laid) (old new : List ℕ) (o : Outcome layout.Progress) : Type 0 where
+  pub laid : r ≡ laidFrom (before .length) o
+  pub buffer : new ≡ putFrom old (before .length) o
+
+-- the chunk laid out: steps 1 to 8
+abbrev pub chunkLaid : List ℕ → NextChunk → Outcome layout.Progress
+chunkLaid s next = layoutChunk (jobIn s next) (given (progressOf (next .before))) (chunkIn s next)
+
+-- a chunk behind its merge: steps 2 to 8 of the glyphs at the places `merged`
+unfoldable pub mergedLaid : List ℕ → NextChunk → List ℕ → Outcome layout.Progress
+mergedLaid s next merged =
+    let gs = glyphsAt s merged in
+    andThen (adjustedClusters (jobIn s next) (chunkIn s next) gs)
+    (λ (cs : List Cluster). given (placeChunk (jobIn s next) (progressOf (next .before)) (chunkIn s next) gs cs))

@@ -1,29 +1,47 @@
--- Decoration runs in two lists, and the run that has started. Definitions only.
-use Prim.Native.Nat.{ℕ, _+_}
-use mathlib.Core.Bool.{Bool, not, cond, _&&_}
-use mathlib.Core.List.{List, zipWith}
-use lib.ListN.{take}
+-- Tables of few clusters, and the run that has started. Definitions only.
+use Prim.Native.Nat.{ℕ, _+_, _≤_}
+use mathlib.Core.Path.{_≡_}
+use mathlib.Core.Bool.{Bool, false, not, cond, _&&_}
+use mathlib.Core.List.{List, [], _∷_}
+use lib.Dec.{ltb}
 use lib.Ieee.{Float}
-use Rattle.labels.specs.Single.{_+ᶠ_}
+use lib.ListN.{length}
+use Rattle.labels.specs.Single.{_+ᶠ_, +0}
 use Rattle.labels.specs.declared.Run.{Run}
-use Rattle.labels.specs.Decoration.{Collecting}
+use Rattle.labels.specs.declared.Span.{Span}
+use Rattle.labels.specs.Merge.{spanContains}
+use Rattle.clusters.specs.Clusters.{Cluster, clustersOf}
 use Rattle.decoration.specs.declared.OpenRun.{OpenRun}
 
--- ---- the first n runs of two lists
+-- ---- tables
+
+-- a row of floats and a row of words for each cluster, and so few that two bytes hold a place
+pub record Tables (floats : List (List Float)) (words : List (List ℕ)) : Type 0 where
+  pub same : length floats ≡ length words
+  pub few : length words ≤ 65_535
+
+abbrev pub allClusters : List (List Float) → List (List ℕ) → List Cluster
+allClusters floats words = clustersOf floats words (length words)
+
+-- ---- runs
 
 abbrev pub runOf : ℕ → Float → Run
 runOf first width = record { first = first; width = width }
 
-unfoldable pub runsIn : List ℕ → List Float → ℕ → List Run
-runsIn firsts widths n = zipWith runOf (take n firsts) (take n widths)
-
--- ---- the definitions' state: the runs that have ended, and the one that has started, if any
-unfoldable pub collecting : List ℕ → List Float → OpenRun → Collecting
-collecting firsts widths o =
-    cond (o .started) (Collecting.started (runsIn firsts widths (o .ended)) (runOf (o .first) (o .width))) (Collecting.waiting (runsIn firsts widths (o .ended)))
+-- before the first cluster
+abbrev pub noRun : OpenRun
+noRun = record { ended = 0; started = false; first = 0; width = +0 }
 
 -- behind the cluster at place k: the run goes on inside the span, or it ends and another starts there
 unfoldable pub opened : OpenRun → ℕ → Bool → Bool → Float → OpenRun
 opened o k inside relative a =
     cond (o .started && inside && not relative) (record { ended = o .ended; started = o .started; first = o .first; width = o .width +ᶠ a })
     (record { ended = cond (o .started) (o .ended + 1) (o .ended); started = inside; first = k; width = a })
+
+-- the same by the cluster
+abbrev pub openedBy : Span → OpenRun → ℕ → Cluster → OpenRun
+openedBy span o k c = opened o k (spanContains span (c .index)) (c .relative) (c .advance)
+
+-- the run that has ended since `o`, if one has
+unfoldable pub endedSince : OpenRun → OpenRun → List Run
+endedSince o next = cond (ltb (o .ended) (next .ended)) (runOf (o .first) (o .width) ∷ []) []

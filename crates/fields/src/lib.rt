@@ -19,9 +19,6 @@ pub const SMALLEST_SIZE: f32 = 0.0625;
 
 pub const LARGEST_SIZE: f32 = 4096.0;
 
-// The font byte of a span with no font.
-pub const NO_FONT: u8 = 255;
-
 pub fn float_ok(x: f32) -> bool
     ensures { λ r. ⌜ r ≡ floatOk x ⌝ }
 {
@@ -77,7 +74,7 @@ pub fn shift_ok(kind: u8, number: f32) -> bool
 pub fn span_ok(fonts: usize, s: Span) -> bool
     ensures { λ r. ⌜ r ≡ spanOk fonts s ⌝ }
 {
-    (((s.font as usize) < fonts) | (s.font == NO_FONT))
+    (((s.font as usize) < fonts) | (s.font == Span::NO_FONT))
         & size_ok(s.size)
         & float_ok(s.letter)
         & float_ok(s.word)

@@ -8,9 +8,9 @@ use lib.Dec.{ltb, eqb}
 use Rattle.labels.specs.declared.Glyph.{Glyph}
 use Rattle.labels.specs.declared.Span.{Span}
 use Rattle.labels.specs.Group.{chunkSpanAt, joinRun, glyphRuns, coveredRuns, groups}
-use Rattle.job_rows.specs.Rows.{spansIn, glyphsIn}
+use Rattle.job_rows.specs.Rows.{spansIn, glyphsAt}
 use Rattle.forming.specs.Groups.{clustersIn}
-use Rattle.forming.proofs.Glyphs.{glyphs-length}
+use Rattle.forming.proofs.Glyphs.{merged-length}
 
 cond-few : {A : Type 0} (b : Bool) (xs ys : List A) (n : ℕ) → length xs ≤ n → length ys ≤ n → length (cond b xs ys) ≤ n
 cond-few true xs ys n p q = p
@@ -45,7 +45,7 @@ few-runs (g ∷ gs) = omega (arith, join-few g (glyphRuns gs), few-runs gs)
 
 -- ---- so that there are no more clusters than glyphs
 
-pub few-clusters : (s spans rows : List ℕ) (count : ℕ) → count ≤ length rows → clustersIn s spans rows count ≤ count
-few-clusters s spans rows count fit =
-    let gs = glyphsIn s rows count in
-    omega (arith, few-groups (spansIn s spans) gs, few-runs gs, glyphs-length s rows count fit)
+pub few-clusters : (s spans merged : List ℕ) → clustersIn s spans merged ≤ length merged
+few-clusters s spans merged =
+    let gs = glyphsAt s merged in
+    omega (arith, few-groups (spansIn s spans) gs, few-runs gs, merged-length s merged)

@@ -6,14 +6,14 @@ use mathlib.Core.List.{List, [], _∷_, map}
 use native.Mathlib.Numerals.{add-one}
 use native.Mathlib.Omega.{arith}
 use lib.ListN.{length, getD, take, drop, length-map, length-take, length-drop, drop-of-length-le}
-use lib.Seq.{take-nil, drop-cons, getD-take, take-take, length-take-le}
+use lib.Seq.{take-nil, drop-cons, getD-take, length-take-le}
 use Rattle.labels.specs.declared.Glyph.{Glyph}
 use Rattle.labels.specs.Check.{unitsOk}
 use Rattle.labels.specs.Decode.{glyphOf, spanOf}
-use Rattle.job_rows.specs.Rows.{spansIn, glyphsIn}
+use Rattle.job_rows.specs.Rows.{spansIn, glyphsAt, glyphsIn}
 use Rattle.job_rows.proofs.ByNumber.{map-in}
 use Rattle.forming.proofs.Passing.{all-first, all-take, all-drop}
-use Rattle.forming.specs.Groups.{glyphIn, widthsOk}
+use Rattle.forming.specs.Groups.{glyphIn, glyphsFrom, widthsOk}
 
 -- ---- a list that is mapped
 
@@ -44,36 +44,47 @@ pub spans-length : (s places : List ℕ) → length (spansIn s places) ≡ lengt
 unfolding spansIn
 spans-length s places = length-map places _
 
-module _ (s rows : List ℕ) (n : ℕ) where
-  pub glyph-next : (i : ℕ) → i < n → n ≤ length rows → drop i (glyphsIn s rows n) ≡ glyphIn s rows i ∷ drop (i + 1) (glyphsIn s rows n)
+module _ (s merged : List ℕ) where
+  pub merged-next : (i : ℕ) → i < length merged → drop i (glyphsAt s merged) ≡ glyphIn s merged i ∷ drop (i + 1) (glyphsAt s merged)
+  unfolding glyphsAt
+  merged-next i h = map-next (λ (at : ℕ). glyphOf (drop at s)) merged i 0 h
+
+  pub merged-length : length (glyphsAt s merged) ≡ length merged
+  unfolding glyphsAt
+  merged-length = length-map merged _
+
+  pub merged-end : (i : ℕ) → length merged ≤ i → drop i (glyphsAt s merged) ≡ []
+  merged-end i h = drop-of-length-le (glyphsAt s merged) {i = i} (rw merged-length h)
+
+-- ---- the first n glyphs
+
+module _ (s merged : List ℕ) (n : ℕ) where
+  pub glyph-next : (i : ℕ) → i < n → n ≤ length merged → glyphsFrom s merged i n ≡ glyphIn s merged i ∷ glyphsFrom s merged (i + 1) n
   unfolding glyphsIn
   glyph-next i h k =
-      let h₁ : i < length (take n rows) = simp length-take (omega arith) in
-      rw (map-next (λ (at : ℕ). glyphOf (drop at s)) (take n rows) i 0 h₁, getD-take n rows i 0)
+      let h₁ : i < length (take n merged) = simp length-take (omega arith) in
+      rw (merged-next s (take n merged) i h₁, getD-take n merged i 0)
 
-  pub width-next : (i : ℕ) → i < n → n ≤ length rows → widthsOk (drop i (glyphsIn s rows n)) ≡ true → unitsOk (glyphIn s rows i .width) ≡ true
+  pub width-next : (i : ℕ) → i < n → n ≤ length merged → widthsOk (glyphsFrom s merged i n) ≡ true → unitsOk (glyphIn s merged i .width) ≡ true
   width-next i h k e = all-first (λ (g : Glyph). unitsOk (g .width)) (glyph-next i h k) e
 
-  pub glyphs-length : n ≤ length rows → length (glyphsIn s rows n) ≡ n
+  pub glyphs-length : n ≤ length merged → length (glyphsIn s merged n) ≡ n
   unfolding glyphsIn
-  glyphs-length h = length-map (take n rows) _ ∙ length-take-le n rows h
+  glyphs-length h = merged-length s (take n merged) ∙ length-take-le n merged h
 
-  pub glyphs-end : (i : ℕ) → n ≤ i → n ≤ length rows → drop i (glyphsIn s rows n) ≡ []
-  glyphs-end i h k = drop-of-length-le (glyphsIn s rows n) {i = i} (rw (glyphs-length k) h)
+  pub glyphs-end : (i : ℕ) → n ≤ i → n ≤ length merged → glyphsFrom s merged i n ≡ []
+  glyphs-end i h k = drop-of-length-le (glyphsIn s merged n) {i = i} (rw (glyphs-length k) h)
 
-  pub part-length : (i : ℕ) → n ≤ length rows → length (drop i (glyphsIn s rows n)) ≡ n - i
-  part-length i h = length-drop i (glyphsIn s rows n) ∙ ap (λ (m : ℕ). m - i) (glyphs-length h)
+  pub part-length : (i : ℕ) → n ≤ length merged → length (glyphsFrom s merged i n) ≡ n - i
+  part-length i h = length-drop i (glyphsIn s merged n) ∙ ap (λ (m : ℕ). m - i) (glyphs-length h)
 
--- ---- a part of the glyphs
+  pub glyphs-take : glyphsIn s merged n ≡ take n (glyphsAt s merged)
+  unfolding glyphsIn glyphsAt
+  glyphs-take = rw map-take
 
-module _ (s rows : List ℕ) (n end : ℕ) (h : end ≤ n) where
-  pub glyphs-take : glyphsIn s rows end ≡ take end (glyphsIn s rows n)
-  unfolding glyphsIn
-  glyphs-take = rw (map-take, take-take end n rows h)
+  -- m of them from i on
+  pub glyphs-part : (i m : ℕ) → n ≡ i + m → take m (drop i (glyphsAt s merged)) ≡ glyphsFrom s merged i n
+  glyphs-part i m e = rw (glyphs-take, e) (take-drop m i (glyphsAt s merged))
 
-  -- those from i to end
-  pub glyphs-part : (i m : ℕ) → end ≡ i + m → take m (drop i (glyphsIn s rows n)) ≡ drop i (glyphsIn s rows end)
-  glyphs-part i m e = rw (glyphs-take, e) (take-drop m i (glyphsIn s rows n))
-
-  pub widths-part : (i : ℕ) → widthsOk (glyphsIn s rows n) ≡ true → widthsOk (drop i (glyphsIn s rows end)) ≡ true
-  widths-part i e = rw glyphs-take (all-drop _ i (take end (glyphsIn s rows n)) (all-take _ end (glyphsIn s rows n) e))
+  pub widths-part : (i : ℕ) → widthsOk (glyphsAt s merged) ≡ true → widthsOk (glyphsFrom s merged i n) ≡ true
+  widths-part i e = rw glyphs-take (all-drop _ i (take n (glyphsAt s merged)) (all-take _ n (glyphsAt s merged) e))

@@ -7,31 +7,30 @@ use lib.ListN.{length, drop}
 use lib.Seq.{drop-drop}
 use Rattle.labels.specs.declared.Glyph.{Glyph}
 use Rattle.labels.specs.Group.{glyphRuns}
-use Rattle.job_rows.specs.Rows.{glyphsIn}
-use Rattle.forming.specs.Groups.{glyphIn}
+use Rattle.job_rows.specs.Rows.{glyphsAt}
+use Rattle.forming.specs.Groups.{glyphIn, glyphsFrom}
 use Rattle.forming.proofs.FirstRun.{runLength, runs-split}
-use Rattle.forming.proofs.Glyphs.{glyph-next, glyphs-end, glyphs-part, part-length}
+use Rattle.forming.proofs.Glyphs.{merged-next, merged-end, glyph-next, glyphs-part, part-length}
 
-module _ (s rows : List ℕ) (count i : ℕ) where
-  pub runs-end : count ≤ length rows → count ≤ i → glyphRuns (drop i (glyphsIn s rows count)) ≡ []
+module _ (s merged : List ℕ) (i : ℕ) where
+  pub runs-end : length merged ≤ i → glyphRuns (drop i (glyphsAt s merged)) ≡ []
   unfolding glyphRuns
-  runs-end fit h = rw (glyphs-end s rows count i h fit)
+  runs-end h = rw (merged-end s merged i h)
 
   -- the first ends at `end`
-  module _ (end : ℕ) (fit : count ≤ length rows)
-      (ends : (end ≡ i + runLength (drop i (glyphsIn s rows count))) × (i < end) × (end ≤ count)) where
+  module _ (end : ℕ) (ends : (end ≡ i + runLength (drop i (glyphsAt s merged))) × (i < end) × (end ≤ length merged)) where
     abbrev run : List Glyph
-    run = drop i (glyphsIn s rows end)
+    run = glyphsFrom s merged i end
 
-    pub run-glyphs : run ≡ glyphIn s rows i ∷ drop (i + 1) (glyphsIn s rows end)
-    run-glyphs = glyph-next s rows end i (ends .1) (omega arith)
+    pub run-glyphs : run ≡ glyphIn s merged i ∷ glyphsFrom s merged (i + 1) end
+    run-glyphs = glyph-next s merged end i (ends .1) (ends .2)
 
-    pub runs-next : glyphRuns (drop i (glyphsIn s rows count)) ≡ run ∷ glyphRuns (drop end (glyphsIn s rows count))
+    pub runs-next : glyphRuns (drop i (glyphsAt s merged)) ≡ run ∷ glyphRuns (drop end (glyphsAt s merged))
     runs-next =
-        let gs = glyphsIn s rows count in
+        let gs = glyphsAt s merged in
         let m = runLength (drop i gs) in
-        runs-split m (glyph-next s rows count i (omega arith) fit) refl
-        ∙ (rw (glyphs-part s rows count end (ends .2) i m (ends .0), drop-drop m i gs, ← ends .0))
+        runs-split m (merged-next s merged i (omega arith)) refl
+        ∙ (rw (glyphs-part s merged end i m (ends .0), drop-drop m i gs, ← ends .0))
 
     pub run-behind : i + length run ≡ end
-    run-behind = rw (part-length s rows end i (omega arith)) (omega arith)
+    run-behind = rw (part-length s merged end i (ends .2)) (omega arith)

@@ -3,7 +3,7 @@ use Prim.Native.Nat.{ℕ, _+_, _≤_, _<_}
 use mathlib.Core.Path.{_≡_, refl}
 use mathlib.Core.Bool.{true}
 use mathlib.Core.List.{List, foldl}
-use lib.ListN.{length, drop}
+use lib.ListN.{length}
 use lib.Ieee.{Float}
 use Rattle.labels.specs.declared.Font.{Font}
 use Rattle.labels.specs.declared.Glyph.{Glyph}
@@ -11,32 +11,28 @@ use Rattle.labels.specs.Check.{unitsOk}
 use Rattle.labels.specs.Single.{_+ᶠ_, +0}
 use Rattle.labels.specs.Kind.{greatest, glyphAdvance, sumAdvance, maxAdvance}
 use Rattle.labels.specs.Cluster.{rounded}
-use Rattle.job_rows.specs.Rows.{glyphsIn}
-use Rattle.forming.specs.Groups.{glyphIn, widthsOk}
+use Rattle.forming.specs.Groups.{glyphIn, glyphsFrom, widthsOk, Measurable}
 use Rattle.forming.proofs.Passing.{all-rest}
 use Rattle.forming.proofs.Glyphs.{glyph-next, glyphs-end}
 
-module _ (s rows : List ℕ) (fonts : List Font) (size : Float) (from end : ℕ) where
-  abbrev glyphsFrom : ℕ → List Glyph
-  glyphsFrom i = drop i (glyphsIn s rows end)
-
+module _ (s merged : List ℕ) (fonts : List Font) (size : Float) (from end : ℕ) where
   -- with the glyphs from place i on, which are left, the largest so far, w, and the sum so far, a, come to the cluster's width and advance
   pub record Left (i : ℕ) (w a : Float) : Type 0 where
-    pub fit : end ≤ length rows
-    pub widths : widthsOk (glyphsFrom i) ≡ true
-    pub width : foldl (λ (w : Float) (g : Glyph). greatest rounded w (glyphAdvance rounded fonts size g)) w (glyphsFrom i) ≡ maxAdvance rounded fonts size (glyphsFrom from)
-    pub advance : foldl (λ (a : Float) (g : Glyph). a +ᶠ glyphAdvance rounded fonts size g) a (glyphsFrom i) ≡ sumAdvance rounded fonts size (glyphsFrom from)
+    pub fit : end ≤ length merged
+    pub widths : widthsOk (glyphsFrom s merged i end) ≡ true
+    pub width : foldl (λ (w : Float) (g : Glyph). greatest rounded w (glyphAdvance rounded fonts size g)) w (glyphsFrom s merged i end) ≡ maxAdvance rounded fonts size (glyphsFrom s merged from end)
+    pub advance : foldl (λ (a : Float) (g : Glyph). a +ᶠ glyphAdvance rounded fonts size g) a (glyphsFrom s merged i end) ≡ sumAdvance rounded fonts size (glyphsFrom s merged from end)
 
-  pub left-all : end ≤ length rows → widthsOk (glyphsFrom from) ≡ true → Left from +0 +0
+  pub left-all : Measurable s merged from end → Left from +0 +0
   unfolding maxAdvance sumAdvance
-  left-all fit h = record { fit = fit; widths = h; width = refl; advance = refl }
+  left-all given = record { fit = given .inside; widths = given .widths; width = refl; advance = refl }
 
-module _ {s rows : List ℕ} {fonts : List Font} {size : Float} {from end i : ℕ} {w a : Float} (left : Left s rows fonts size from end i w a) where
+module _ {s merged : List ℕ} {fonts : List Font} {size : Float} {from end i : ℕ} {w a : Float} (left : Left s merged fonts size from end i w a) where
   -- x is the next glyph's advance
-  pub left-next : i < end → {x v b : Float} → x ≡ glyphAdvance rounded fonts size (glyphIn s rows i) → (v ≡ greatest rounded w x) × (b ≡ a +ᶠ x)
-      → Left s rows fonts size from end (i + 1) v b
+  pub left-next : i < end → {x v b : Float} → x ≡ glyphAdvance rounded fonts size (glyphIn s merged i) → (v ≡ greatest rounded w x) × (b ≡ a +ᶠ x)
+      → Left s merged fonts size from end (i + 1) v b
   left-next h e with-x =
-      let next = glyph-next s rows end i h (left .fit) in
+      let next = glyph-next s merged end i h (left .fit) in
       record {
         fit = left .fit;
         widths = all-rest (λ (g : Glyph). unitsOk (g .width)) next (left .widths);
@@ -45,7 +41,7 @@ module _ {s rows : List ℕ} {fonts : List Font} {size : Float} {from end i : �
       }
 
   pub left-none : end ≤ i
-      → (w ≡ maxAdvance rounded fonts size (drop from (glyphsIn s rows end))) × (a ≡ sumAdvance rounded fonts size (drop from (glyphsIn s rows end)))
+      → (w ≡ maxAdvance rounded fonts size (glyphsFrom s merged from end)) × (a ≡ sumAdvance rounded fonts size (glyphsFrom s merged from end))
   left-none h =
-      let none = glyphs-end s rows end i h (left .fit) in
+      let none = glyphs-end s merged end i h (left .fit) in
       (rw none at (left .width), rw none at (left .advance))

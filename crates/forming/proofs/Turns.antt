@@ -16,7 +16,7 @@ use Rattle.labels.specs.Lists.{all}
 use Rattle.labels.specs.Group.{Group, chunkSpanAt, glyphRuns, coveredRuns, groups}
 use Rattle.clusters.specs.Clusters.{clustersOf, floatsOf, wordsOf, indexesIn}
 use Rattle.clusters.proofs.Rows.{clusters-push}
-use Rattle.job_rows.specs.Rows.{spansIn, glyphsIn}
+use Rattle.job_rows.specs.Rows.{spansIn, glyphsAt}
 use Rattle.forming.specs.Groups.{glyphIn, groupIn, clustersIn}
 use Rattle.forming.proofs.Passing.{all-push}
 use Rattle.forming.proofs.FirstRun.{runLength}
@@ -38,50 +38,49 @@ module _ (spans : List Span) (from k : ℕ) {g : Glyph} {run gs : List Glyph} (r
 
 -- ---- the groups of the glyphs from place i on
 
-module _ (s places rows : List ℕ) (count : ℕ) where
+module _ (s places merged : List ℕ) where
   abbrev pub groupsFrom : ℕ → List Group
-  groupsFrom i = coveredRuns (spansIn s places) i (glyphRuns (drop i (glyphsIn s rows count)))
+  groupsFrom i = coveredRuns (spansIn s places) i (glyphRuns (drop i (glyphsAt s merged)))
 
-  pub groups-start : groupsFrom 0 ≡ groups (spansIn s places) (glyphsIn s rows count)
+  pub groups-start : groupsFrom 0 ≡ groups (spansIn s places) (glyphsAt s merged)
   unfolding groups
   groups-start = refl
 
-  pub groups-end : (i : ℕ) → count ≤ length rows → count ≤ i → groupsFrom i ≡ []
+  pub groups-end : (i : ℕ) → length merged ≤ i → groupsFrom i ≡ []
   unfolding coveredRuns
-  groups-end i fit h = rw (runs-end s rows count i fit h)
+  groups-end i h = rw (runs-end s merged i h)
 
   -- n groups are passed, and those from i on are left
   abbrev pub Counted : ℕ → ℕ → Type 0
-  Counted n i = n + length (groupsFrom i) ≡ clustersIn s places rows count
+  Counted n i = n + length (groupsFrom i) ≡ clustersIn s places merged
 
-  pub groups-all : (n i : ℕ) → Counted n i → groupsFrom i ≡ [] → n ≡ clustersIn s places rows count
+  pub groups-all : (n i : ℕ) → Counted n i → groupsFrom i ≡ [] → n ≡ clustersIn s places merged
   groups-all n i counted e = omega (arith, ap length e)
 
 -- the run from place i to end, and the first span that covers it: what `run_end`, `index_in` and `chunk_span_at` ensure
-pub record Run (s places rows : List ℕ) (count i end k : ℕ) : Type 0 where
-  pub fit : count ≤ length rows
-  pub ends : (end ≡ i + runLength (drop i (glyphsIn s rows count))) × (i < end) × (end ≤ count)
-  pub span : k ≡ chunkSpanAt (spansIn s places) (glyphIn s rows i .index)
+pub record Run (s places merged : List ℕ) (i end k : ℕ) : Type 0 where
+  pub ends : (end ≡ i + runLength (drop i (glyphsAt s merged))) × (i < end) × (end ≤ length merged)
+  pub span : k ≡ chunkSpanAt (spansIn s places) (glyphIn s merged i .index)
 
-module _ {s places rows : List ℕ} {count i end k : ℕ} (run : Run s places rows count i end k) where
-  pub groups-passed : length places ≤ k → groupsFrom s places rows count i ≡ groupsFrom s places rows count end
+module _ {s places merged : List ℕ} {i end k : ℕ} (run : Run s places merged i end k) where
+  pub groups-passed : length places ≤ k → groupsFrom s places merged i ≡ groupsFrom s places merged end
   groups-passed h =
-      let next = run-glyphs s rows count i end (run .fit) (run .ends) in
-      rw (runs-next s rows count i end (run .fit) (run .ends))
-      (covered-passed (spansIn s places) i k _ next (run .span) (rw (spans-length s places) h) ∙ (rw (run-behind s rows count i end (run .fit) (run .ends))))
+      let next = run-glyphs s merged i end (run .ends) in
+      rw (runs-next s merged i end (run .ends))
+      (covered-passed (spansIn s places) i k _ next (run .span) (rw (spans-length s places) h) ∙ (rw (run-behind s merged i end (run .ends))))
 
   module _ (h : k < length places) where
-    pub groups-kept : groupsFrom s places rows count i ≡ groupIn s rows i end k ∷ groupsFrom s places rows count end
+    pub groups-kept : groupsFrom s places merged i ≡ groupIn s merged i end k ∷ groupsFrom s places merged end
     unfolding groupIn
     groups-kept =
-        let next = run-glyphs s rows count i end (run .fit) (run .ends) in
-        rw (runs-next s rows count i end (run .fit) (run .ends))
-        (covered-kept (spansIn s places) i k _ next (run .span) (rw (spans-length s places) h) ∙ (rw (run-behind s rows count i end (run .fit) (run .ends))))
+        let next = run-glyphs s merged i end (run .ends) in
+        rw (runs-next s merged i end (run .ends))
+        (covered-kept (spansIn s places) i k _ next (run .span) (rw (spans-length s places) h) ∙ (rw (run-behind s merged i end (run .ends))))
 
-    pub groups-room : (n : ℕ) → Counted s places rows count n i → n < clustersIn s places rows count
+    pub groups-room : (n : ℕ) → Counted s places merged n i → n < clustersIn s places merged
     groups-room n counted = omega (arith, ap length groups-kept)
 
-    pub groups-turn : (n : ℕ) → Counted s places rows count n i → Counted s places rows count (n + 1) end
+    pub groups-turn : (n : ℕ) → Counted s places merged n i → Counted s places merged (n + 1) end
     groups-turn n counted = omega (arith, ap length groups-kept)
 
 -- ---- n clusters are stored, and those of the groups that are left are still to be formed

@@ -4,6 +4,8 @@ use job_rows::numbered::font_in;
 use job_rows::numbered::size_in;
 use job_rows::numbered::units_in;
 use job_rows::rows::glyph_at;
+use job_rows::sizes::GLYPH_FONT_AT;
+use job_rows::sizes::GLYPH_WIDTH_AT;
 use labels::Cluster;
 use measure::ascent;
 use measure::descent;
@@ -13,14 +15,14 @@ use wire::read::u8_at;
 ghost use mathlib.Core.Path.{_≡_};
 ghost use mathlib.Core.Bool.{true};
 ghost use Prim.Native.Nat.{_<_, _≤_};
-ghost use lib.ListN.{length, drop};
+ghost use lib.ListN.{drop};
 ghost use Rattle.labels.specs.Check.{unitsOk};
 ghost use Rattle.labels.specs.Decode.{glyphOf};
 ghost use Rattle.labels.specs.Single.{_+ᶠ_};
 ghost use Rattle.labels.specs.Kind.{greatest, glyphAdvance, sumAdvance, maxAdvance};
 ghost use Rattle.labels.specs.Cluster.{rounded, formGlyphClusters};
-ghost use Rattle.job_rows.specs.Rows.{fontsIn, spansIn, glyphsIn};
-ghost use Rattle.forming.specs.Groups.{widthsOk, glyphIn, groupIn};
+ghost use Rattle.job_rows.specs.Rows.{fontsIn, spansIn};
+ghost use Rattle.forming.specs.Groups.{glyphIn, glyphsFrom, groupIn, Measurable};
 
 // The advance of the glyph whose row stands at `at`, of its own font.
 pub fn glyph_advance(s: &[u8], fonts: usize, at: usize, size: f32) -> f32
@@ -28,8 +30,8 @@ pub fn glyph_advance(s: &[u8], fonts: usize, at: usize, size: f32) -> f32
     ensures { λ r. ⌜ r ≡ glyphAdvance rounded (fontsIn (now (s .entry)) fonts) size (glyphOf (drop at (now (s .entry)))) ⌝ }
 {
     let row = wire::place::from(s, at);
-    let units = units_in(s, fonts, u8_at(row, 19));
-    measure_units(units, size, i32_at(row, 15))
+    let units = units_in(s, fonts, u8_at(row, GLYPH_FONT_AT));
+    measure_units(units, size, i32_at(row, GLYPH_WIDTH_AT))
 }
 
 // The largest of some glyphs' advances, at least 0, and their sum.
@@ -53,16 +55,15 @@ fn with_glyph(a: Advances, own: f32) -> Advances
 fn glyph_advances(
     s: &[u8],
     fonts: usize,
-    rows: &[u32],
+    merged: &[u32],
     from: usize,
     end: usize,
     size: f32,
     first: f32,
 ) -> Advances
-    requires { ⌜ (from < end) × (end ≤ length (now rows)) × (widthsOk (drop from (glyphsIn (now s) (now rows) end)) ≡ true)
-        × (first ≡ glyphAdvance rounded (fontsIn (now s) fonts) size (glyphIn (now s) (now rows) from)) ⌝ }
-    ensures { λ r. ⌜ (r .width ≡ maxAdvance rounded (fontsIn (now (s .entry)) fonts) size (drop from (glyphsIn (now (s .entry)) (now (rows .entry)) end)))
-        × (r .advance ≡ sumAdvance rounded (fontsIn (now (s .entry)) fonts) size (drop from (glyphsIn (now (s .entry)) (now (rows .entry)) end))) ⌝ }
+    requires { ⌜ Measurable (now s) (now merged) from end × (first ≡ glyphAdvance rounded (fontsIn (now s) fonts) size (glyphIn (now s) (now merged) from)) ⌝ }
+    ensures { λ r. ⌜ (r .width ≡ maxAdvance rounded (fontsIn (now (s .entry)) fonts) size (glyphsFrom (now (s .entry)) (now (merged .entry)) from end))
+        × (r .advance ≡ sumAdvance rounded (fontsIn (now (s .entry)) fonts) size (glyphsFrom (now (s .entry)) (now (merged .entry)) from end)) ⌝ }
 {
     let none = Advances {
         width: 0.0,
@@ -71,7 +72,7 @@ fn glyph_advances(
     let mut all = with_glyph(none, first);
     let mut i = from + 1;
     while i < end {
-        all = with_glyph(all, glyph_advance(s, fonts, place_in(rows, i), size));
+        all = with_glyph(all, glyph_advance(s, fonts, place_in(merged, i), size));
         i += 1;
     }
     all
@@ -82,21 +83,20 @@ pub fn form_glyph_clusters(
     s: &[u8],
     fonts: usize,
     spans: &[usize],
-    rows: &[u32],
+    merged: &[u32],
     from: usize,
     end: usize,
     k: usize,
 ) -> Cluster
-    requires { ⌜ (from < end) × (end ≤ length (now rows)) × (end ≤ 1_024) × (k < 256)
-        × (widthsOk (drop from (glyphsIn (now s) (now rows) end)) ≡ true) ⌝ }
+    requires { ⌜ Measurable (now s) (now merged) from end × (end ≤ 1_024) × (k < 256) ⌝ }
     ensures { λ r. ⌜ (r ≡ formGlyphClusters (fontsIn (now (s .entry)) fonts) (spansIn (now (s .entry)) (now (spans .entry)))
-        (groupIn (now (s .entry)) (now (rows .entry)) from end k)) × (r .index < 65_536) ⌝ }
+        (groupIn (now (s .entry)) (now (merged .entry)) from end k)) × (r .index < 65_536) ⌝ }
 {
     let size = size_in(s, spans, k);
-    let first = glyph_at(s, place_in(rows, from));
+    let first = glyph_at(s, place_in(merged, from));
     let font = font_in(s, fonts, first.font);
     let own = measure_units(font.units, size, first.width);
-    let advances = glyph_advances(s, fonts, rows, from, end, size, own);
+    let advances = glyph_advances(s, fonts, merged, from, end, size, own);
     let up = ascent(font, size);
     let down = descent(font, size);
     Cluster {

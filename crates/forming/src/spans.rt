@@ -1,4 +1,5 @@
 // Which span covers a byte index.
+use job_rows::sizes::SPAN_END_AT;
 use wire::place::from;
 use wire::read::u16_at;
 ghost use mathlib.Core.Path.{_≡_};
@@ -9,12 +10,12 @@ ghost use Rattle.labels.specs.Group.{chunkSpanAt};
 ghost use Rattle.job_rows.specs.Rows.{spansIn};
 
 // The span whose record stands at `at`.
-pub fn span_contains(s: &[u8], at: usize, index: usize) -> bool
+pub fn span_contains_at(s: &[u8], at: usize, index: usize) -> bool
     ensures { λ r. ⌜ r ≡ spanContains (spanOf (drop at (now (s .entry)))) index ⌝ }
 {
     let row = from(s, at);
     let start = u16_at(row, 0) as usize;
-    let end = u16_at(row, 2) as usize;
+    let end = u16_at(row, SPAN_END_AT) as usize;
     (start <= index) & (index < end)
 }
 
@@ -24,7 +25,7 @@ pub fn chunk_span_at(s: &[u8], spans: &[usize], index: usize) -> usize
 {
     let mut k: usize = 0;
     while k < spans.len() {
-        if span_contains(s, spans[k], index) {
+        if span_contains_at(s, spans[k], index) {
             return k;
         }
         k += 1;

@@ -1,4 +1,5 @@
 // Check 6: the spans of a chunk stand in order inside its text.
+use job_rows::sizes::SPAN_END_AT;
 use job_rows::sizes::span_bytes;
 use job_rows::sizes::span_count;
 use job_rows::sizes::span_size;
@@ -21,7 +22,7 @@ pub fn spans_ordered(spans: &[u8], n: usize, length: usize) -> bool
     while 0 < left {
         let span = from(spans, p);
         let start = u16_at(span, 0) as usize;
-        let end = u16_at(span, 2) as usize;
+        let end = u16_at(span, SPAN_END_AT) as usize;
         if !((previous <= start) & (start <= end) & (end <= length)) {
             return false;
         }

@@ -6,7 +6,6 @@ use crate::walk::SpanCheck;
 use crate::walk::chunks_pass;
 use crate::walk::rows_ok;
 use crate::walk::spans_pass;
-use fields::NO_FONT;
 use fields::flagged_ok;
 use fields::span_ok;
 use job_rows::rows::head_at;
@@ -21,6 +20,7 @@ use job_rows::sizes::shift_count;
 use job_rows::sizes::span_bytes;
 use job_rows::sizes::text_of;
 use labels::Job;
+use labels::Span;
 use wire::place::from;
 use wire::read::u16_at;
 ghost use mathlib.Core.Path.{_≡_};
@@ -40,7 +40,7 @@ pub fn parts_ok(fonts: usize, span: &[u8]) -> bool
     let shifts = from(span, SHIFTS_AT);
     let glyphs = from(span, glyphs_at(span) + GLYPH_COUNT_BYTES);
     span_ok(fonts, head)
-        & (!(head.font == NO_FONT) | (n == 0))
+        & (!(head.font == Span::NO_FONT) | (n == 0))
         & rows_ok(RowKind::Shift, fonts, shifts, shift_count(span))
         & rows_ok(RowKind::Glyph, fonts, glyphs, n)
 }

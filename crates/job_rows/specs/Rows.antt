@@ -1,13 +1,15 @@
 -- The rows of a job by their numbers, in its record s. Definitions only.
-use Prim.Native.Nat.{ℕ}
+use Prim.Native.Nat.{ℕ, _+_}
 use mathlib.Core.List.{List, map}
 use lib.ListN.{take, drop}
-use Rattle.labels.specs.Bytes.{rows}
+use Rattle.labels.specs.Bytes.{be, rows}
 use Rattle.labels.specs.declared.Font.{Font}
 use Rattle.labels.specs.declared.Glyph.{Glyph}
+use Rattle.labels.specs.declared.Job.{Job}
 use Rattle.labels.specs.declared.Span.{Span}
+use Rattle.labels.specs.Job as definitions
 use Rattle.labels.specs.Job.{SpanParts}
-use Rattle.labels.specs.Decode.{fontBytes, fontOf, glyphOf, spanOf, partsOf}
+use Rattle.labels.specs.Decode.{fontBytes, fontOf, glyphOf, spanOf, partsOf, listOf, chunkSize, chunkOf}
 
 -- the n font rows, which begin behind length, version, writing mode and font count
 unfoldable pub fontsIn : List ℕ → ℕ → List Font
@@ -21,6 +23,26 @@ spansIn s places = map (λ (at : ℕ). spanOf (drop at s)) places
 unfoldable pub partsIn : List ℕ → List ℕ → List SpanParts
 partsIn s places = map (λ (at : ℕ). partsOf (drop at s)) places
 
--- the glyphs whose rows begin at the first n places
+-- the glyphs whose rows begin at the places
+unfoldable pub glyphsAt : List ℕ → List ℕ → List Glyph
+glyphsAt s places = map (λ (at : ℕ). glyphOf (drop at s)) places
+
+-- of the first n places
 unfoldable pub glyphsIn : List ℕ → List ℕ → ℕ → List Glyph
-glyphsIn s places n = map (λ (at : ℕ). glyphOf (drop at s)) (take n places)
+glyphsIn s places n = glyphsAt s (take n places)
+
+-- the job whose parts stand at these places of the record
+abbrev pub jobAt : List ℕ → Job → definitions.Job
+jobAt s job =
+    record {
+      mode = job .mode;
+      fonts = fontsIn s (job .fonts);
+      dx = listOf (drop (job .dx) s);
+      dy = listOf (drop (job .dy) s);
+      rotate = listOf (drop (job .rotate) s);
+      chunks = rows chunkSize chunkOf (be 1 (drop (job .chunks) s)) (drop (job .chunks + 1) s);
+    }
+
+-- and its chunk that begins at `at`
+abbrev pub chunkAt : List ℕ → Job → ℕ → definitions.Chunk
+chunkAt s job at = chunkOf (drop at s)

@@ -5,6 +5,7 @@ use crate::rows::span_at;
 use crate::sizes::FLOAT_SIZE;
 use crate::sizes::FONT_BYTES;
 use crate::sizes::LIST_COUNT_BYTES;
+use crate::sizes::SPAN_SIZE_AT;
 use crate::sizes::span_size;
 use labels::Font;
 use labels::Span;
@@ -26,9 +27,6 @@ ghost use Rattle.job_rows.specs.Rows.{fontsIn, spansIn, partsIn};
 
 // Where the first font row stands: behind length, version, writing mode and font count.
 pub const FIRST_FONT: usize = 7;
-
-// Where the font size stands in a span's record.
-pub const SIZE_AT: usize = 5;
 
 fn blank_font() -> Font
     ensures { λ r. ⌜ r ≡ blankFont ⌝ }
@@ -74,7 +72,7 @@ fn blank_span() -> Span
     Span {
         start: 0,
         end: 0,
-        font: 255,
+        font: Span::NO_FONT,
         size: 0.0,
         letter: 0.0,
         word: 0.0,
@@ -104,7 +102,7 @@ pub fn size_in(s: &[u8], places: &[usize], k: usize) -> f32
     if places.len() <= k {
         return 0.0;
     }
-    f32_at(from(s, places[k]), SIZE_AT)
+    f32_at(from(s, places[k]), SPAN_SIZE_AT)
 }
 
 // The float of place `i` in a list, given the bytes from its count on.

@@ -4,8 +4,16 @@ use crate::sizes::CHUNK_X_AT;
 use crate::sizes::CHUNK_Y_AT;
 use crate::sizes::FONT_BYTES;
 use crate::sizes::GLYPH_BYTES;
+use crate::sizes::GLYPH_FONT_AT;
 use crate::sizes::GLYPH_INDEX_AT;
+use crate::sizes::GLYPH_LENGTH_AT;
+use crate::sizes::GLYPH_WIDTH_AT;
+use crate::sizes::SPAN_END_AT;
+use crate::sizes::SPAN_FONT_AT;
 use crate::sizes::SPAN_HEAD_BYTES;
+use crate::sizes::SPAN_LETTER_AT;
+use crate::sizes::SPAN_SIZE_AT;
+use crate::sizes::SPAN_WORD_AT;
 use labels::Font;
 use labels::Glyph;
 use labels::Span;
@@ -72,12 +80,12 @@ pub fn glyph_of(row: &[u8]) -> Glyph
 {
     Glyph {
         id: u32_within(row, 0),
-        index: u16_within(row, 4),
-        length: u8_within(row, 6),
+        index: u16_within(row, GLYPH_INDEX_AT),
+        length: u8_within(row, GLYPH_LENGTH_AT),
         dx: i32_within(row, 7),
         dy: i32_within(row, 11),
-        width: i32_within(row, 15),
-        font: u8_within(row, 19),
+        width: i32_within(row, GLYPH_WIDTH_AT),
+        font: u8_within(row, GLYPH_FONT_AT),
         tag: u32_within(row, 20),
         orientation: u8_within(row, 24),
     }
@@ -111,11 +119,11 @@ fn span_of(row: &[u8]) -> Span
 {
     Span {
         start: u16_within(row, 0),
-        end: u16_within(row, 2),
-        font: u8_within(row, 4),
-        size: f32_within(row, 5),
-        letter: f32_within(row, 9),
-        word: f32_within(row, 13),
+        end: u16_within(row, SPAN_END_AT),
+        font: u8_within(row, SPAN_FONT_AT),
+        size: f32_within(row, SPAN_SIZE_AT),
+        letter: f32_within(row, SPAN_LETTER_AT),
+        word: f32_within(row, SPAN_WORD_AT),
         fixed: u8_within(row, 17),
         length: f32_within(row, 18),
         adjust: u8_within(row, 22),

@@ -16,8 +16,14 @@ pub const FONT_BYTES: usize = 18;
 
 pub const GLYPH_BYTES: usize = 25;
 
-// Where a glyph's byte index stands in its row.
+// Where a glyph's byte index, cluster length, width and font byte stand in its row.
 pub const GLYPH_INDEX_AT: usize = 4;
+
+pub const GLYPH_LENGTH_AT: usize = 6;
+
+pub const GLYPH_WIDTH_AT: usize = 15;
+
+pub const GLYPH_FONT_AT: usize = 19;
 
 pub const SHIFT_BYTES: usize = 5;
 
@@ -47,6 +53,17 @@ pub const ANCHOR_AT: usize = 9;
 pub const TEXT_AT: usize = 11;
 
 pub const TEXT_BYTES_AT: usize = TEXT_AT + 2;
+
+// Where a span's end stands, behind its start, its font byte, font size, letter spacing and word spacing.
+pub const SPAN_END_AT: usize = 2;
+
+pub const SPAN_FONT_AT: usize = 4;
+
+pub const SPAN_SIZE_AT: usize = 5;
+
+pub const SPAN_LETTER_AT: usize = 9;
+
+pub const SPAN_WORD_AT: usize = 13;
 
 // How many bytes a span has before its shift count, and where that and the shifts stand.
 pub const SPAN_HEAD_BYTES: usize = 26;

@@ -111,14 +111,15 @@ pub record LaidChunk : Type 0 where
   pub extent : Float
   pub covering : List ℕ
 
--- the pen, how many characters came before, and the chunks laid out
+-- the pen, how many characters came before, the extent of the last chunk, and the chunks laid out
 pub record Progress : Type 0 where
   pub pen : Point
   pub offset : ℕ
+  pub extent : Float
   pub chunks : List LaidChunk
 
 abbrev pub beginning : Progress
-beginning = record { pen = record { x = +0; y = +0 }; offset = 0; chunks = [] }
+beginning = record { pen = record { x = +0; y = +0 }; offset = 0; extent = +0; chunks = [] }
 
 -- the chunk's x and y, each taken from the pen where its flag is clear
 abbrev pub originOf : Point → Chunk → Point
@@ -131,7 +132,7 @@ penAfter mode origin endX endY =
 
 -- the chunk is laid out, and the pen stands behind it; its characters count
 abbrev pub advanced : Progress → Chunk → Point → LaidChunk → Progress
-advanced st c pen laid = record { pen = pen; offset = st .offset + characters (c .text); chunks = st .chunks ++ (laid ∷ []) }
+advanced st c pen laid = record { pen = pen; offset = st .offset + characters (c .text); extent = laid .extent; chunks = st .chunks ++ (laid ∷ []) }
 
 -- steps 7 and 8, with the merged glyphs and the clusters after step 6. A chunk with no cluster keeps the pen and has no span rows
 unfoldable pub placeChunk : Job → Progress → Chunk → List Glyph → List Cluster → Progress
@@ -186,7 +187,7 @@ abbrev pub bufferAfter : Outcome (List ℕ) → List ℕ → List ℕ
 bufferAfter (refused n) old = old
 bufferAfter (given answer) old = answer ++ drop (length answer) old
 
--- the number `told`, the length `long` and the buffer's bytes `new`, behind the bytes `old`, are those of an outcome
+-- the number `told`, the length `long`, and the bytes `new` of a buffer that held `old`, are those of an outcome
 pub record Answers (o : Outcome (List ℕ)) (old : List ℕ) (told long : ℕ) (new : List ℕ) : Type 0 where
   pub number : told ≡ numberOf o
   pub written : long ≡ lengthOf o

@@ -1,6 +1,7 @@
 // The values that the definitions of specs/ and the code share. A struct or an enum here is a type there, under `specs.declared`.
 ghost use mathlib.Core.Path.{_≡_};
 ghost use Rattle.labels.specs.Job.{limits};
+ghost use Rattle.labels.specs.Merge.{spanContains};
 ghost use Rattle.labels.specs.Script.{scriptSupportsLetterSpacing};
 
 // ---- the job
@@ -30,6 +31,9 @@ pub struct Limits {
 }
 
 impl Job {
+    // The writing mode top to bottom; the other is left to right.
+    pub const TOP_TO_BOTTOM: u8 = 1;
+
     pub const BYTES: usize = 65_536;
 
     pub const FONTS: usize = 16;
@@ -48,7 +52,7 @@ impl Job {
 
     pub const MERGED: usize = 1_024;
 
-    // The constants are the definitions' limits.
+    // The largest counts are the definitions' limits.
     pub fn limits() -> Limits
         ensures { λ r. ⌜ r ≡ limits ⌝ }
     {
@@ -107,6 +111,18 @@ pub struct Span {
     pub dominant: u8,
     pub alignment: u8,
     pub decorations: u8,
+}
+
+impl Span {
+    // The font byte of a span with no font.
+    pub const NO_FONT: u8 = 255;
+}
+
+// The span covers byte index `index`.
+pub fn span_contains(span: Span, index: u32) -> bool
+    ensures { λ r. ⌜ r ≡ spanContains span index ⌝ }
+{
+    (span.start as u32 <= index) & (index < span.end as u32)
 }
 
 // How far a character of UTF-8 has been read: it expects so many more bytes, of which the next lies between two bounds.

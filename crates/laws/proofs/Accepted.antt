@@ -8,8 +8,8 @@ use lib.Dec.{T, eqb→eq}
 use lib.Ieee.{Float, binary32, fits, ofBits, eq}
 use lib.Ieee.Bits.{ofBits-fits, ofBits-toBits}
 use Rattle.laws.proofs.All.{All, all-of, all-every, all-rows, both, first, rest}
-use Rattle.laws.proofs.Outcomes.{reached, all-passed}
-use Rattle.labels.specs.Outcome.{given, Check, firstFailing}
+use Rattle.laws.proofs.Outcomes.{reached, passesUnder, passed-under}
+use Rattle.labels.specs.Outcome.{given, firstFailing}
 use Rattle.labels.specs.Lists.{all}
 use Rattle.labels.specs.Bytes.{float}
 use Rattle.labels.specs.Single.{isZeroBits}
@@ -34,16 +34,15 @@ unfolding checked checks
 accepted bs job e =
     let r = reached (firstFailing checks bs) (λ (u : Unit {0}). given (jobOf (afterVersion bs))) job e in
     let is : jobOf (afterVersion bs) ≡ job = cc (r .2) in
-    let from-1 = all-of (λ (c : Check (List ℕ)). c .passes bs) checks (all-passed checks bs (r .1)) in
-    let from-4 = rest (rest (rest from-1)) in
+    let check : (n : ℕ) → T (passesUnder n checks bs) = λ n. passed-under n checks bs (r .1) in
     record {
       is = is;
-      size = first from-1;
-      version = first (rest from-1);
-      shape = first (rest (rest from-1));
-      values = subst (λ (j : Job). T (valuesOk j)) is (first from-4);
-      text = subst (λ (j : Job). T (all textOk (j .chunks))) is (first (rest from-4));
-      spans = subst (λ (j : Job). T (all spansOk (j .chunks))) is (first (rest (rest from-4)));
+      size = check 1;
+      version = check 2;
+      shape = check 3;
+      values = subst (λ (j : Job). T (valuesOk j)) is (check 4);
+      text = subst (λ (j : Job). T (all textOk (j .chunks))) is (check 5);
+      spans = subst (λ (j : Job). T (all spansOk (j .chunks))) is (check 6);
     }
 
 -- ---- every float of a job is in range

@@ -24,7 +24,6 @@ use Rattle.labels.specs.Job.{Job, Chunk, SpanParts, limits}
 use Rattle.labels.specs.Decode.{glyphBytes, partsOf, glyphsAt, spanSize, chunkOf, textAt, textSize, spansAt, spanCount, spanBytes, chunkSize, jobOf, shaped, chunksAt, chunkCountBytes, chunkCount, chunkBytes}
 use Rattle.labels.specs.Check.{checked, afterVersion, lengthOk, spansOk}
 use Rattle.labels.specs.Merge.{mergeGlyphs}
-use Rattle.labels.specs.declared.Point.{Point}
 use Rattle.labels.specs.Answer.{ChunkRow, chunkRowBytes, answerBytes, answerLength, chunkRowLength}
 use Rattle.labels.specs.Layout.{adjustedClusters, Progress, beginning, placeChunk, layoutChunk, layoutJob, rowsOf, layoutRows}
 
@@ -92,10 +91,10 @@ module _ (job : Job) where
   chunks-bound n m o e (All.more {x = c} t ts) h = chunks-bound (n + chunkLeast c) m (layoutChunk job o c) (omega arith) ts (chunk-bound n o c t h)
 
 -- the bytes of a chunk that is laid out alone
-pub chunk-bytes : (job : Job) (pen : Point) (offset : ℕ) (c : Chunk) (st : Progress) → T (spansOk c) → layoutChunk job (given (record { pen = pen; offset = offset; chunks = [] })) c ≡ given st
+pub chunk-bytes : (job : Job) (before : Progress) (c : Chunk) (st : Progress) → before .chunks ≡ [] → T (spansOk c) → layoutChunk job (given before) c ≡ given st
     → 25 * length (flatMap chunkRowBytes (rowsOf (st .chunks))) ≤ 64 * chunkLeast c
-chunk-bytes job pen offset c st t e =
-    let b : Bounded (0 + chunkLeast c) st = of-given (Bounded (0 + chunkLeast c)) _ st (chunk-bound job 0 (given (record { pen = pen; offset = offset; chunks = [] })) c t (omega arith)) e in
+chunk-bytes job before c st none t e =
+    let b : Bounded (0 + chunkLeast c) st = of-given (Bounded (0 + chunkLeast c)) _ st (chunk-bound job 0 (given before) c t (rw none (omega arith))) e in
     omega (arith, rows-bytes (st .chunks))
 
 -- ---- the whole answer

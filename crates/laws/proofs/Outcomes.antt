@@ -2,12 +2,12 @@
 use Prim.Native.Nat.{ℕ, zero, suc, _+_, _<_, _≤_}
 use native.Mathlib.Nat.{suc-add, le-of-suc-le-suc, not-suc-le-zero}
 use mathlib.Core.Path.{_≡_, refl, sym, ap, _∙_, subst}
-use mathlib.Core.Bool.{Bool, true, false, _&&_}
+use mathlib.Core.Bool.{Bool, true, false, cond, _&&_}
 use mathlib.Core.List.{List, [], _∷_, map}
 use native.Mathlib.Omega.{arith}
 use lib.ListN.{length, drop, getD, drop-of-length-le}
-use lib.Dec.{T}
-use Rattle.laws.proofs.All.{All, cond-keeps}
+use lib.Dec.{T, eqb}
+use Rattle.laws.proofs.All.{All, all-of, cond-keeps}
 use Rattle.labels.specs.Outcome.{Outcome, refused, given, andThen, Check, firstFailing}
 use Rattle.labels.specs.Lists.{all}
 
@@ -21,7 +21,7 @@ reached (given a) f b e = (a, refl, e)
 
 module _ {A : Type 0} where
   -- there is none
-  pub all-passed : (cs : List (Check A)) (a : A) → firstFailing cs a ≡ given tt → T (all (λ (c : Check A). c .passes a) cs)
+  all-passed : (cs : List (Check A)) (a : A) → firstFailing cs a ≡ given tt → T (all (λ (c : Check A). c .passes a) cs)
   unfolding firstFailing all
   all-passed [] a e = tt
   all-passed (c ∷ cs) a e = go (c .passes a) refl (all-passed cs a)
@@ -32,6 +32,18 @@ module _ {A : Type 0} where
           let impossible : refused (c .number) ≡ given tt = rw h at e in
           let z : _≡_ {A = ℕ} 0 1 = cc in
           absurd (omega arith)
+
+  -- so the one under a number passes
+  abbrev pub passesUnder : ℕ → List (Check A) → A → Bool
+  passesUnder n [] a = true
+  passesUnder n (c ∷ cs) a = cond (eqb (c .number) n) (c .passes a) (passesUnder n cs a)
+
+  under : (n : ℕ) (cs : List (Check A)) (a : A) → All (λ (c : Check A). T (c .passes a)) cs → T (passesUnder n cs a)
+  under n cs a All.none = tt
+  under n cs a (All.more {x = c} {xs = ds} h hs) = cond-keeps T (eqb (c .number) n) h (under n ds a hs)
+
+  pub passed-under : (n : ℕ) (cs : List (Check A)) (a : A) → firstFailing cs a ≡ given tt → T (passesUnder n cs a)
+  passed-under n cs a e = under n cs a (all-of (λ (c : Check A). c .passes a) cs (all-passed cs a e))
 
   -- what holds where there is none, and under the number of each check
   pub first-keeps : (P : Outcome (Unit {0}) → Type 0) (cs : List (Check A)) (a : A) → P (given tt) → All (λ (c : Check A). P (refused (c .number))) cs → P (firstFailing cs a)

@@ -1,40 +1,63 @@
--- A job that passes the checks has the places that the steps ask for. Assumes nothing.
+-- A job that passes the checks has the places that the steps ask for: what stands there is the job. Assumes nothing.
 use Prim.Native.Nat.{ℕ, _+_, _≤_}
-use mathlib.Core.Path.{_≡_, sym, ap, subst, _∙_}
+use mathlib.Core.Path.{_≡_, refl, sym, ap, subst, _∙_}
 use mathlib.Core.List.{List}
 use native.Mathlib.Omega.{arith}
-use lib.ListN.{length, length-drop}
+use lib.ListN.{length, drop, length-drop}
+use lib.Seq.{drop-drop}
 use lib.Dec.{T, leb→le, eqb→eq}
 use Rattle.laws.proofs.All.{all-every, first, rest}
 use Rattle.laws.proofs.Records.{length-rows}
 use Rattle.laws.proofs.Accepted.{accepted}
 use Rattle.labels.specs.Outcome.{given}
 use Rattle.labels.specs.Lists.{all}
-use Rattle.labels.specs.Bytes.{sizes}
+use Rattle.labels.specs.Bytes.{be, sizes}
 use Rattle.labels.specs.declared.Job.{Job}
-use Rattle.labels.specs.Decode.{shaped, jobOf, chunksAt, chunkCountBytes, chunkCount, chunkBytes, chunkSize}
+use Rattle.labels.specs.Job as definitions
+use Rattle.labels.specs.Decode.{shaped, jobOf, dxAt, dyAt, rotateAt, chunksAt, chunkCountBytes, chunkCount, chunkBytes, chunkSize}
 use Rattle.labels.specs.Check.{checked, afterVersion, lengthOk, valuesOk, chunkOk}
+use Rattle.job_rows.specs.Rows.{fontsIn, jobAt}
 use Rattle.job.specs.Answer.{placesOf, answerOf}
 use Rattle.job.specs.declared.check.Checked.the-variants as C
+use Rattle.job.proofs.Places.{behind-version}
 use Rattle.job.proofs.Answers.{given-where-accepted, accepted-where-given}
-use Rattle.layout.specs.Checked.{CheckedJob}
-use Rattle.laid_chunk.specs.Steps.{jobIn}
+use Rattle.layout.specs.Checked.{chunkCountIn, CheckedJob}
+
+-- ---- the record's places are its job's
+
+module _ (s : List ℕ) where
+  abbrev rest-of : List ℕ
+  rest-of = afterVersion s
+
+  count-at : chunkCount rest-of ≡ chunkCountIn s (placesOf s)
+  unfolding placesOf chunkCount
+  count-at = ap (be chunkCountBytes) (sym (behind-version s (chunksAt rest-of)))
+
+  chunks-at : chunkBytes rest-of ≡ drop (placesOf s .chunks + chunkCountBytes) s
+  unfolding placesOf chunkBytes
+  chunks-at =
+      let at : 5 + (chunksAt rest-of + 1) ≡ 5 + chunksAt rest-of + 1 = omega arith in
+      drop-drop (chunksAt rest-of + 1) 5 s ∙ ap (λ (n : ℕ). drop n s) at
+
+  job-at : jobOf rest-of ≡ jobAt s (placesOf s)
+  unfolding jobOf placesOf fontsIn
+  job-at =
+      rw (← (behind-version s 2), ← (behind-version s (dxAt rest-of)), ← (behind-version s (dyAt rest-of)), ← (behind-version s (rotateAt rest-of)), count-at, chunks-at) refl
 
 module _ (s : List ℕ) (job : Job) (e : answerOf s ≡ C.Accepted job) where
-  pub job-given : checked s ≡ given (jobIn s)
-  job-given = given-where-accepted s job e
-
   places-are : job ≡ placesOf s
-  places-are = let same = accepted-where-given s (jobIn s) job-given in cc
+  places-are = let same = accepted-where-given s (jobOf (afterVersion s)) (given-where-accepted s job e) in cc
 
-  fonts-are : length (jobIn s .fonts) ≡ job .fonts
-  unfolding jobOf placesOf
-  fonts-are = length-rows _ _ _ _ ∙ ap (λ (j : Job). j .fonts) (sym places-are)
+  job-is : jobOf (afterVersion s) ≡ jobAt s job
+  job-is = job-at s ∙ ap (jobAt s) (sym places-are)
+
+  pub job-given : checked s ≡ given (jobAt s job)
+  job-given = given-where-accepted s job e ∙ ap given job-is
 
   pub checked-job : CheckedJob s job
-  unfolding lengthOk shaped valuesOk placesOf
+  unfolding lengthOk shaped valuesOk placesOf fontsIn
   checked-job =
-      let a = accepted s (jobIn s) job-given in
+      let a = accepted s (jobAt s job) job-given in
       let size = all-every _ (a .size) in
       let shape = rest (rest (rest (rest (all-every _ (a .shape))))) in
       let least : 5 ≤ length s = leb→le _ _ (first size) in
@@ -44,8 +67,7 @@ module _ (s : List ℕ) (job : Job) (e : answerOf s ≡ C.Accepted job) where
       record {
         passed = job-given;
         size = leb→le _ _ (first (rest size));
-        places = places-are;
         begins = omega (arith, ends);
-        fits = first (rest shape);
-        ok = subst (λ (n : ℕ). T (all (chunkOk n) (jobIn s .chunks))) fonts-are (first (rest (rest (rest (rest (rest (all-every _ (a .values))))))));
+        fits = rw places-are (rw (count-at s, chunks-at s) at (first (rest shape)));
+        ok = subst (λ (n : ℕ). T (all (chunkOk n) (jobAt s job .chunks))) (length-rows _ _ _ _) (first (rest (rest (rest (rest (rest (all-every _ (a .values))))))));
       }

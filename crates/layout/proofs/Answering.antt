@@ -10,6 +10,7 @@ use Rattle.laws.proofs.Numbers.{length-bytes}
 use Rattle.laws.proofs.IfGiven.{IfGiven, of-given}
 use Rattle.labels.specs.Outcome.{Outcome, refused, given, andThen}
 use Rattle.labels.specs.Bytes.{bytes}
+use Rattle.labels.specs.declared.Job.{Job}
 use Rattle.labels.specs.Job as definitions
 use Rattle.labels.specs.Job.{Chunk}
 use Rattle.labels.specs.Answer.{ChunkRow, chunkRowBytes, answerVersion, answerCountBytes, answerHeadSize, answerBody, answerBytes}
@@ -19,7 +20,8 @@ use Rattle.labels.specs.declared.Cluster.{Cluster}
 use Rattle.labels.specs.Check.{checked}
 use Rattle.labels.specs.Layout.{LaidChunk, Progress, beginning, rowsOf, adjustedClusters, placeChunk, layoutChunk, layoutJob, layoutRows, fitting, layoutOf, Answers}
 use Rattle.wire.specs.Splice.{splice}
-use Rattle.laid_chunk.specs.Steps.{jobIn, laidBytes, putFrom}
+use Rattle.job_rows.specs.Rows.{jobAt}
+use Rattle.chunk.specs.Steps.{laidBytes, putFrom}
 use Rattle.layout.specs.Steps.{jobLaid, answered}
 use Rattle.layout.proofs.Copied.{answerLength, refused-unput, longer-unput, rows-put}
 
@@ -53,11 +55,12 @@ module _ (j : definitions.Job) where
       let e : k + 1 + length cs ≡ k + length (c ∷ cs) = omega arith in
       subst (λ (n : ℕ). IfGiven (Many n) (foldl (layoutChunk j) (layoutChunk j o c) cs)) e (chunks-many (k + 1) (layoutChunk j o c) cs (chunk-many k o c h))
 
-pub rows-many : (s : List ℕ) (st : Progress) → jobLaid s ≡ given st → length (rowsOf (st .chunks)) ≡ length (jobIn s .chunks)
+pub rows-many : (s : List ℕ) (job : Job) (st : Progress) → jobLaid s job ≡ given st → length (rowsOf (st .chunks)) ≡ length (jobAt s job .chunks)
 unfolding jobLaid
-rows-many s st e =
+rows-many s job st e =
+    let j = jobAt s job in
     length-map (st .chunks) (λ (c : LaidChunk). c .row)
-    ∙ of-given (Many (jobIn s) (0 + length (jobIn s .chunks))) (jobLaid s) st (chunks-many (jobIn s) 0 (given beginning) (jobIn s .chunks) refl) e ∙ omega arith
+    ∙ of-given (Many j (0 + length (j .chunks))) (jobLaid s job) st (chunks-many j 0 (given beginning) (j .chunks) refl) e ∙ omega arith
 
 -- ---- the bytes of an answer
 
@@ -101,21 +104,21 @@ module _ (o : Outcome Progress) (old : List ℕ) where
   abbrev room : ℕ
   room = length old
 
-  pub answers-refused : (k : ℕ) {new : List ℕ} → o ≡ refused k → new ≡ putFrom room old answerHeadSize o → Answers (answered o room) old k 0 new
+  pub answers-refused : (k : ℕ) {new : List ℕ} → o ≡ refused k → new ≡ putFrom old answerHeadSize o → Answers (answered o room) old k 0 new
   unfolding answered andThen
-  answers-refused k e b = rw e (record { number = refl; written = refl; buffer = b ∙ refused-unput o room old k e })
+  answers-refused k e b = rw e (record { number = refl; written = refl; buffer = b ∙ refused-unput o old k e })
 
   module _ (st : Progress) (e : o ≡ given st) where
     abbrev rows : List ChunkRow
     rows = rowsOf (st .chunks)
 
-    pub answers-too-long : {new : List ℕ} → room < answerLength st → new ≡ putFrom room old answerHeadSize o → Answers (answered o room) old 10 0 new
+    pub answers-too-long : {new : List ℕ} → room < answerLength st → new ≡ putFrom old answerHeadSize o → Answers (answered o room) old 10 0 new
     unfolding answered andThen fitting laidBytes
     answers-too-long h b =
-        rw (e, answer-long rows, lt-leb (answerLength st) room h) (record { number = refl; written = refl; buffer = b ∙ longer-unput o st e room old h })
+        rw (e, answer-long rows, lt-leb (answerLength st) room h) (record { number = refl; written = refl; buffer = b ∙ longer-unput o st e old h })
 
     -- the rows, and then the head
-    pub answers-written : (size count : ℕ) {put new : List ℕ} → answerLength st ≤ room → size ≡ answerLength st → count ≡ length rows → put ≡ putFrom room old answerHeadSize o
+    pub answers-written : (size count : ℕ) {put new : List ℕ} → answerLength st ≤ room → size ≡ answerLength st → count ≡ length rows → put ≡ putFrom old answerHeadSize o
         → new ≡ splice put 0 (headOf size count) → Answers (answered o room) old 0 size new
     unfolding answered andThen fitting laidBytes
     answers-written size count h n c b₁ b₂ =
@@ -124,14 +127,14 @@ module _ (o : Outcome Progress) (old : List ℕ) where
         let whole : splice (splice old answerHeadSize (flatMap chunkRowBytes rows)) 0 (headOf size count) ≡ answerBytes rows ++ drop (length (answerBytes rows)) old =
         subst (λ (k : ℕ). splice (splice old k (flatMap chunkRowBytes rows)) 0 (headOf size count) ≡ answerBytes rows ++ drop (length (answerBytes rows)) old) six
         (head-put old (headOf size count) (flatMap chunkRowBytes rows) (omega arith) ∙ ap (λ (a : List ℕ). a ++ drop (length a) old) is) in
-        rw (e, answer-long rows, le-leb (answerLength st) room h) (record { number = refl; written = n ∙ sym (answer-long rows); buffer = b₂ ∙ ap (λ (l : List ℕ). splice l 0 (headOf size count)) (b₁ ∙ rows-put o st e room old h) ∙ whole })
+        rw (e, answer-long rows, le-leb (answerLength st) room h) (record { number = refl; written = n ∙ sym (answer-long rows); buffer = b₂ ∙ ap (λ (l : List ℕ). splice l 0 (headOf size count)) (b₁ ∙ rows-put o st e old h) ∙ whole })
 
 -- ---- the call
 
 module _ (s : List ℕ) (room : ℕ) where
-  pub call-given : checked s ≡ given (jobIn s) → layoutOf s room ≡ answered (jobLaid s) room
+  pub call-given : (job : Job) → checked s ≡ given (jobAt s job) → layoutOf s room ≡ answered (jobLaid s job) room
   unfolding layoutOf layoutRows layoutJob andThen answered jobLaid
-  call-given e = rw e (go (foldl (layoutChunk (jobIn s)) (given beginning) (jobIn s .chunks)))
+  call-given job e = rw e (go (foldl (layoutChunk (jobAt s job)) (given beginning) (jobAt s job .chunks)))
     where
       go : (o : Outcome Progress) → andThen (andThen (andThen o (λ (st : Progress). given (st .chunks))) (λ (cs : List LaidChunk). given (rowsOf cs))) (fitting room)
           ≡ andThen o (λ (st : Progress). fitting room (rowsOf (st .chunks)))

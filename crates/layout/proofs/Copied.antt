@@ -11,8 +11,9 @@ use Rattle.labels.specs.Outcome.{Outcome, refused, given}
 use Rattle.labels.specs.Answer.{answerHeadSize}
 use Rattle.labels.specs.Layout.{Progress}
 use Rattle.wire.specs.Splice.{splice}
-use Rattle.laid_chunk.specs.declared.progress.Reached.{Reached}
-use Rattle.laid_chunk.specs.Steps.{laidBytes, reachedFrom, putWithin, putFrom}
+use Rattle.chunk.specs.declared.progress.Progress as chunk
+use Rattle.chunk.specs.Steps.{laidBytes, progressFrom, putFrom}
+use Rattle.answer.specs.Chunks.{putWithin}
 use Rattle.layout.specs.Steps.{fitsIn}
 
 -- what was put stands there
@@ -26,23 +27,23 @@ part-put l at bs h =
 abbrev pub answerLength : Progress → ℕ
 answerLength st = answerHeadSize + length (laidBytes st)
 
-pub end-length : (st : Progress) {end : Reached} → end ≡ reachedFrom answerHeadSize st → end .length ≡ answerLength st
-unfolding reachedFrom
-end-length st e = ap (λ (r : Reached). r .length) e
+pub end-length : (st : Progress) {end : chunk.Progress} → end ≡ progressFrom answerHeadSize st → end .length ≡ answerLength st
+unfolding progressFrom
+end-length st e = ap (λ (r : chunk.Progress). r .length) e
 
 module _ (o : Outcome Progress) where
-  pub refused-unput : (room : ℕ) (l : List ℕ) (k : ℕ) → o ≡ refused k → putFrom room l answerHeadSize o ≡ l
+  pub refused-unput : (l : List ℕ) (k : ℕ) → o ≡ refused k → putFrom l answerHeadSize o ≡ l
   unfolding putFrom
-  refused-unput room l k e = rw e refl
+  refused-unput l k e = rw e refl
 
   module _ (st : Progress) (e : o ≡ given st) where
-    pub longer-unput : (room : ℕ) (l : List ℕ) → room < answerLength st → putFrom room l answerHeadSize o ≡ l
+    pub longer-unput : (l : List ℕ) → length l < answerLength st → putFrom l answerHeadSize o ≡ l
     unfolding putFrom putWithin
-    longer-unput room l h = rw (e, lt-leb (answerLength st) room h) refl
+    longer-unput l h = rw (e, lt-leb (answerLength st) (length l) h) refl
 
-    pub rows-put : (room : ℕ) (l : List ℕ) → answerLength st ≤ room → putFrom room l answerHeadSize o ≡ splice l answerHeadSize (laidBytes st)
+    pub rows-put : (l : List ℕ) → answerLength st ≤ length l → putFrom l answerHeadSize o ≡ splice l answerHeadSize (laidBytes st)
     unfolding putFrom putWithin
-    rows-put room l h = rw (e, le-leb (answerLength st) room h) refl
+    rows-put l h = rw (e, le-leb (answerLength st) (length l) h) refl
 
     pub fits-of : (room : ℕ) → answerLength st ≤ room → fitsIn room o ≡ true
     unfolding fitsIn
@@ -50,10 +51,10 @@ module _ (o : Outcome Progress) where
 
     -- from the buffer that was `blank`, where they were put, to the one that was `old`
     pub rows-copied : (size : ℕ) (blank old : List ℕ) {aside new : List ℕ} → size ≡ answerLength st → size ≤ length blank → size ≤ length old
-        → aside ≡ putFrom (length blank) blank answerHeadSize o → new ≡ splice old answerHeadSize (take (size - answerHeadSize) (drop answerHeadSize aside))
-        → new ≡ putFrom (length old) old answerHeadSize o
+        → aside ≡ putFrom blank answerHeadSize o → new ≡ splice old answerHeadSize (take (size - answerHeadSize) (drop answerHeadSize aside))
+        → new ≡ putFrom old answerHeadSize o
     rows-copied size blank old {aside} n h k aside-is new-is =
         let m : size - answerHeadSize ≡ length (laidBytes st) = omega arith in
         let is : take (size - answerHeadSize) (drop answerHeadSize aside) ≡ laidBytes st =
-        rw (m, aside-is, rows-put (length blank) blank (omega arith)) (part-put blank answerHeadSize (laidBytes st) (omega arith)) in
-        new-is ∙ ap (splice old answerHeadSize) is ∙ sym (rows-put (length old) old (omega arith))
+        rw (m, aside-is, rows-put blank (omega arith)) (part-put blank answerHeadSize (laidBytes st) (omega arith)) in
+        new-is ∙ ap (splice old answerHeadSize) is ∙ sym (rows-put old (omega arith))

@@ -14,11 +14,12 @@ use Rattle.labels.specs.Merge.{mergeGlyphs}
 use Rattle.labels.specs.Answer.{chunkRowBytes}
 use Rattle.labels.specs.Layout.{LaidChunk, Progress, rowsOf, adjustedClusters, placeChunk, layoutChunk}
 use Rattle.wire.specs.Splice.{splice}
-use Rattle.wire.proofs.Splice.{splice-next}
-use Rattle.laid_chunk.specs.Steps.{progressOf, laidBytes, reachedFrom, laidFrom, putWithin, putFrom}
+use Rattle.wire.proofs.Splice.{length-splice, splice-next}
+use Rattle.answer.specs.Chunks.{putWithin}
+use Rattle.chunk.specs.Steps.{progressOf, laidBytes, progressFrom, laidFrom, putFrom}
 
 abbrev pub prefixed : List LaidChunk → Progress → Progress
-prefixed ls st = record { pen = st .pen; offset = st .offset; chunks = ls ++ st .chunks }
+prefixed ls st = record { pen = st .pen; offset = st .offset; extent = st .extent; chunks = ls ++ st .chunks }
 
 abbrev pub onGiven : {A : Type 0} → (A → A) → Outcome A → Outcome A
 onGiven f (refused n) = refused n
@@ -69,7 +70,7 @@ module _ (st : Progress) where
   length-behind n after = ap (λ (bs : List ℕ). n + length bs) (bytes-behind after) ∙ ap (λ (k : ℕ). n + k) (length-append (laidBytes st) (laidBytes after)) ∙ omega arith
 
   measured : (n : ℕ) (o : Outcome Progress) → laidFrom n (onGiven (prefixed (st .chunks)) o) ≡ laidFrom (n + length (laidBytes st)) o
-  unfolding laidFrom reachedFrom
+  unfolding laidFrom progressFrom
   measured n (refused k) = refl
   measured n (given after) = rw (length-behind n after) refl
 
@@ -78,9 +79,9 @@ abbrev pub FitsFrom : ℕ → ℕ → Outcome Progress → Type 0
 FitsFrom room n (refused k) = ⊥
 FitsFrom room n (given st) = n + length (laidBytes st) ≤ room
 
-pub put-fits : (room : ℕ) (out : List ℕ) (n : ℕ) (bs : List ℕ) → n + length bs ≤ room → putWithin room out n bs ≡ splice out n bs
+pub put-fits : (out : List ℕ) (n : ℕ) (bs : List ℕ) → n + length bs ≤ length out → putWithin out n bs ≡ splice out n bs
 unfolding putWithin
-put-fits room out n bs h = rw (le-leb (n + length bs) room h) refl
+put-fits out n bs h = rw (le-leb (n + length bs) (length out) h) refl
 
 -- ---- a chunk was laid out, and n bytes came before it: the code goes on from its own state
 
@@ -89,46 +90,47 @@ module _ (j : Job) (cs : List Chunk) (n : ℕ) (st : Progress) where
   whole = foldl (layoutChunk j) (given st) cs
 
   abbrev rest : Outcome Progress
-  rest = foldl (layoutChunk j) (given (progressOf (reachedFrom n st))) cs
+  rest = foldl (layoutChunk j) (given (progressOf (progressFrom n st))) cs
 
   whole-is : whole ≡ onGiven (prefixed (st .chunks)) rest
-  unfolding reachedFrom
+  unfolding progressFrom
   whole-is =
-      ap (λ (ls : List LaidChunk). foldl (layoutChunk j) (given (record { pen = st .pen; offset = st .offset; chunks = ls })) cs) (sym (append-nil (st .chunks)))
-      ∙ all-laid j (st .chunks) cs (given (progressOf (reachedFrom n st)))
+      ap (λ (ls : List LaidChunk). foldl (layoutChunk j) (given (record { pen = st .pen; offset = st .offset; extent = st .extent; chunks = ls })) cs) (sym (append-nil (st .chunks)))
+      ∙ all-laid j (st .chunks) cs (given (progressOf (progressFrom n st)))
 
   pub measured-on : laidFrom (n + length (laidBytes st)) rest ≡ laidFrom n whole
   measured-on = sym (measured st n rest) ∙ ap (laidFrom n) (sym whole-is)
 
-  module _ (room : ℕ) (old : List ℕ) (held : room ≤ length old) (fits : FitsFrom room n whole) where
-    behind-fits : (o : Outcome Progress) → FitsFrom room n (onGiven (prefixed (st .chunks)) o) → FitsFrom room (n + length (laidBytes st)) o
+  module _ (old : List ℕ) (fits : FitsFrom (length old) n whole) where
+    behind-fits : (o : Outcome Progress) → FitsFrom (length old) n (onGiven (prefixed (st .chunks)) o) → FitsFrom (length old) (n + length (laidBytes st)) o
     behind-fits (refused k) h = h
     behind-fits (given after) h = let same = length-behind st n after in omega arith
 
-    pub fits-on : FitsFrom room (n + length (laidBytes st)) rest
-    fits-on = behind-fits rest (subst (FitsFrom room n) whole-is fits)
+    pub fits-on : FitsFrom (length old) (n + length (laidBytes st)) rest
+    fits-on = behind-fits rest (subst (FitsFrom (length old) n) whole-is fits)
 
-    first-fits : (o : Outcome Progress) → FitsFrom room (n + length (laidBytes st)) o → n + length (laidBytes st) ≤ room
+    first-fits : (o : Outcome Progress) → FitsFrom (length old) (n + length (laidBytes st)) o → n + length (laidBytes st) ≤ length old
     first-fits (refused k) h = absurd h
     first-fits (given after) h = omega arith
 
-    put-behind : (o : Outcome Progress) → FitsFrom room (n + length (laidBytes st)) o
-        → putFrom room (splice old n (laidBytes st)) (n + length (laidBytes st)) o ≡ putFrom room old n (onGiven (prefixed (st .chunks)) o)
+    put-behind : (o : Outcome Progress) → FitsFrom (length old) (n + length (laidBytes st)) o
+        → putFrom (splice old n (laidBytes st)) (n + length (laidBytes st)) o ≡ putFrom old n (onGiven (prefixed (st .chunks)) o)
     unfolding putFrom
     put-behind (refused k) h = absurd h
     put-behind (given after) h =
-        put-fits room (splice old n (laidBytes st)) (n + length (laidBytes st)) (laidBytes after) h
+        let kept : length (splice old n (laidBytes st)) ≡ length old = length-splice old n (laidBytes st) (omega arith) in
+        put-fits (splice old n (laidBytes st)) (n + length (laidBytes st)) (laidBytes after) (omega (arith, kept, h))
         ∙ splice-next old n (laidBytes st) (n + length (laidBytes st)) (laidBytes after) refl (omega arith)
         ∙ ap (splice old n) (sym (bytes-behind st after))
-        ∙ sym (put-fits room old n (laidBytes (prefixed (st .chunks) after)) (let same = length-behind st n after in omega arith))
+        ∙ sym (put-fits old n (laidBytes (prefixed (st .chunks) after)) (let same = length-behind st n after in omega arith))
 
-    module _ (new : List ℕ) (put : new ≡ putFrom room old n (given st)) where
+    module _ (new : List ℕ) (put : new ≡ putFrom old n (given st)) where
       put-is : new ≡ splice old n (laidBytes st)
       unfolding putFrom
-      put-is = put ∙ put-fits room old n (laidBytes st) (first-fits rest fits-on)
+      put-is = put ∙ put-fits old n (laidBytes st) (first-fits rest fits-on)
 
-      pub put-on : putFrom room new (n + length (laidBytes st)) rest ≡ putFrom room old n whole
+      pub put-on : putFrom new (n + length (laidBytes st)) rest ≡ putFrom old n whole
       put-on =
-          ap (λ (l : List ℕ). putFrom room l (n + length (laidBytes st)) rest) put-is
+          ap (λ (l : List ℕ). putFrom l (n + length (laidBytes st)) rest) put-is
           ∙ put-behind rest fits-on
-          ∙ ap (putFrom room old n) (sym whole-is)
+          ∙ ap (putFrom old n) (sym whole-is)

@@ -14,6 +14,7 @@ use Rattle.labels.specs.Lists.{findIdx, atOr}
 use Rattle.labels.specs.declared.Glyph.{Glyph}
 use Rattle.labels.specs.Decode.{glyphOf}
 use Rattle.labels.specs.Merge.{placeOf, lengthAt}
+use Rattle.job_rows.specs.Rows.{glyphsAt}
 use Rattle.merge.specs.Merged.{glyphsIn}
 use Rattle.merge.proofs.Moved.{map-drop}
 
@@ -39,11 +40,11 @@ module _ (s rows : List ℕ) (n index : ℕ) where
   placeFrom i = i + placeOf index (map glyphAt (drop i (take n rows)))
 
   pub place-start : placeFrom 0 ≡ placeOf index (glyphsIn s rows n)
-  unfolding glyphsIn
+  unfolding glyphsIn glyphsAt
   place-start = omega arith
 
   pub place-from : (i : ℕ) → i ≤ placeOf index (glyphsIn s rows n) → placeFrom i ≡ placeOf index (glyphsIn s rows n)
-  unfolding glyphsIn
+  unfolding glyphsIn glyphsAt
   place-from i h = rw (map-drop glyphAt i (take n rows)) (past (λ (g : Glyph). eqb (g .index) index) (map glyphAt (take n rows)) i h)
 
   next-row : (i : ℕ) → i < n → n ≤ length rows → drop i (take n rows) ≡ getD rows i 0 ∷ drop (suc i) (take n rows)
@@ -75,5 +76,5 @@ at-map b f h d (x ∷ l) (suc n) zero k m = refl
 at-map b f h d (x ∷ l) (suc n) (suc p) k m = at-map b f h d l n p (le-of-suc-le-suc k) (le-of-suc-le-suc m)
 
 pub length-there : (s rows : List ℕ) (n p : ℕ) → p < n → n ≤ length rows → lengthAt (glyphsIn s rows n) p ≡ glyphOf (drop (getD rows p 0) s) .length
-unfolding glyphsIn
+unfolding glyphsIn glyphsAt
 length-there s rows n p h k = at-map 0 (λ (g : Glyph). g .length) (λ (at : ℕ). glyphOf (drop at s)) 0 rows n p h k

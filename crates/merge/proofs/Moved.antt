@@ -12,6 +12,7 @@ use Rattle.job_rows.proofs.Walks.{rows-turn, rows-done}
 use Rattle.labels.specs.declared.Glyph.{Glyph}
 use Rattle.labels.specs.Decode.{glyphOf, glyphBytes}
 use Rattle.labels.specs.Merge.{inserted, removed}
+use Rattle.job_rows.specs.Rows.{glyphsAt}
 use Rattle.merge.specs.Merged.{glyphsIn}
 
 module _ {A : Type 0} where
@@ -75,22 +76,22 @@ module _ (s : List ℕ) where
   glyphAt at = glyphOf (drop at s)
 
   pub glyphs-count : (l : List ℕ) (n : ℕ) → n ≤ length l → length (glyphsIn s l n) ≡ n
-  unfolding glyphsIn
+  unfolding glyphsIn glyphsAt
   glyphs-count l n h = rw (length-map (take n l) glyphAt, length-take) (omega arith)
 
   -- the rows l are the first k of m with `row` at place `at`
   pub glyphs-inserted : (l m : List ℕ) (n k at row : ℕ) → at ≤ k → take n l ≡ carried m k at row → glyphsIn s l n ≡ inserted at (glyphAt row) (glyphsIn s m k)
-  unfolding glyphsIn inserted
+  unfolding glyphsIn glyphsAt inserted
   glyphs-inserted l m n k at row h e =
       rw (e, ← take-take at k m h, map-append, map-take glyphAt at, map-drop glyphAt at)
 
   pub glyphs-removed : (l m : List ℕ) (n k at j : ℕ) → at + 1 ≤ k → take n l ≡ without m k j (at + 1) → glyphsIn s l n ≡ removed at j (glyphsIn s m k)
-  unfolding glyphsIn removed
+  unfolding glyphsIn glyphsAt removed
   glyphs-removed l m n k at j h e =
       rw (e, ← take-take (at + 1) k m h, map-append, map-take glyphAt (at + 1), map-drop glyphAt (at + 1 + j))
 
   pub glyphs-set : (l : List ℕ) (n at row : ℕ) → at < n → glyphsIn s (set l at row) n ≡ set (glyphsIn s l n) at (glyphAt row)
-  unfolding glyphsIn
+  unfolding glyphsIn glyphsAt
   glyphs-set l n at row h = rw (take-set-lt n l at row, map-set glyphAt (take n l) at row)
 
   -- n glyphs from `first` on, of which those before place i stand in the list already, and the next begins at `row`
@@ -98,11 +99,11 @@ module _ (s : List ℕ) where
   listed l n i row = glyphsIn s l i ++ rows (λ r. glyphBytes) glyphOf (n - i) (drop row s)
 
   pub listed-start : (l : List ℕ) (n first : ℕ) → listed l n 0 first ≡ rows (λ r. glyphBytes) glyphOf n (drop first s)
-  unfolding glyphsIn
+  unfolding glyphsIn glyphsAt
   listed-start l n first = let e : n - 0 ≡ n = omega arith in rw e
 
   pub listed-step : (l : List ℕ) (n i row : ℕ) → i < n → n ≤ length l → listed (set l i row) n (i + 1) (row + glyphBytes) ≡ listed l n i row
-  unfolding glyphsIn
+  unfolding glyphsIn glyphsAt
   listed-step l n i row h f =
       let f₁ : i < length l = omega arith in
       let more : 0 < n - i = omega arith in

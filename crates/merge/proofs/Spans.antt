@@ -16,6 +16,7 @@ use Rattle.labels.specs.Merge.{merging, mergeGlyph, mergeDone, mergeSpan, merge
 use Rattle.laws.proofs.All.{All, first, rest}
 use Rattle.laws.proofs.Records.{length-rows}
 use Rattle.job_rows.specs.Rows.{partsIn}
+use Rattle.job_rows.specs.Rows as lookup
 use Rattle.merge.specs.Merged.{glyphsIn, FewGlyphs}
 use Rattle.merge.proofs.Moved.{glyphs-count}
 
@@ -47,7 +48,7 @@ module _ (s : List ℕ) (parts : SpanParts) (first n : ℕ) (own : records (λ b
 
 -- an empty list becomes the span's own
 pub span-first : (s : List ℕ) (parts : SpanParts) (rows : List ℕ) (count : ℕ) → count ≡ 0 → mergeSpan (given (glyphsIn s rows count)) parts ≡ given (parts .glyphs)
-unfolding mergeSpan glyphsIn
+unfolding mergeSpan glyphsIn lookup.glyphsAt
 span-first s parts rows count e = rw e
 
 -- a single span has nothing to be merged with
@@ -95,5 +96,5 @@ module _ (s spans : List ℕ) (i : ℕ) where
   few-on h few = rw add-one (rest (rw (drop-cons spans i 0 h) at few))
 
 pub spans-start : (s rows : List ℕ) (ps : List SpanParts) → foldl mergeSpan (given (glyphsIn s rows 0)) ps ≡ mergeGlyphs ps
-unfolding mergeGlyphs glyphsIn
+unfolding mergeGlyphs glyphsIn lookup.glyphsAt
 spans-start s rows ps = refl

@@ -25,21 +25,21 @@ fold-halted span k (g ∷ gs) = fold-halted span k gs
 
 module _ (s : List ℕ) (span : Span) (stamp : ℕ) (whole : Merging) where
   -- the n glyphs from `row` on, merged into what is there now, give `whole`
-  pub record Left (rows marks : List ℕ) (at : Progress) (row n : ℕ) : Type 0 where
+  pub record Left (rows marks : List ℕ) (count owed q row n : ℕ) : Type 0 where
     pub positions : List ℕ
     pub marked : Marked stamp marks positions
-    pub rest : foldl (mergeGlyph span) (mergingOf (Going at) s rows positions) (records (λ b. glyphBytes) glyphOf n (drop row s)) ≡ whole
+    pub rest : foldl (mergeGlyph span) (merging (glyphsIn s rows count) positions owed q) (records (λ b. glyphBytes) glyphOf n (drop row s)) ≡ whole
 
   -- the merge of the glyph at `row` gave r
-  module _ (rows rows₁ marks marks₁ : List ℕ) (at : Progress) (row n : ℕ) (r : Step) (l : Left rows marks at row n) (h : 0 < n)
+  module _ (rows rows₁ marks marks₁ : List ℕ) (at : Progress) (row n : ℕ) (r : Step) (l : Left rows marks (at .count) (at .owed) (at .next) row n) (h : 0 < n)
       (did : (positions : List ℕ) → Marked stamp marks positions → Stands r s rows₁ stamp marks₁ (mergeGlyph span (merging (glyphsIn s rows (at .count)) positions (at .owed) (at .next)) (glyphOf (drop row s)))) where
     next : foldl (mergeGlyph span) (mergingOf r s rows₁ (did (l .positions) (l .marked) .positions)) (records (λ b. glyphBytes) glyphOf (n - 1) (drop (row + glyphBytes) s)) ≡ whole
-    unfolding mergingOf
     next =
         rw (did (l .positions) (l .marked) .is, ← drop-drop glyphBytes row s)
         (rw (rows-turn (λ b. glyphBytes) glyphOf n (drop row s) h) at (l .rest))
 
-    pub left-on : (at₁ : Progress) → r ≡ Going at₁ → Left rows₁ marks₁ at₁ (row + glyphBytes) (n - 1)
+    pub left-on : (at₁ : Progress) → r ≡ Going at₁ → Left rows₁ marks₁ (at₁ .count) (at₁ .owed) (at₁ .next) (row + glyphBytes) (n - 1)
+    unfolding mergingOf
     left-on at₁ e = record {
       positions = did (l .positions) (l .marked) .positions;
       marked = did (l .positions) (l .marked) .marked;
@@ -60,6 +60,6 @@ module _ (s : List ℕ) (span : Span) (stamp : ℕ) (whole : Merging) where
         let left : List Glyph = records (λ b. glyphBytes) glyphOf (n - 1) (drop (row + glyphBytes) s) in
         ap mergeDone (sym (fold-halted span k left) ∙ (rw e at next))
 
-  pub left-done : (rows marks : List ℕ) (at : Progress) (row n : ℕ) → Left rows marks at row n → n ≤ 0 → given (glyphsIn s rows (at .count)) ≡ mergeDone whole
-  unfolding mergingOf mergeDone
-  left-done rows marks at row n l h = ap mergeDone (rw (rows-done (λ b. glyphBytes) glyphOf n (drop row s) h) at (l .rest))
+  pub left-done : (rows marks : List ℕ) (count owed q row n : ℕ) → Left rows marks count owed q row n → n ≤ 0 → given (glyphsIn s rows count) ≡ mergeDone whole
+  unfolding mergeDone
+  left-done rows marks count owed q row n l h = ap mergeDone (rw (rows-done (λ b. glyphBytes) glyphOf n (drop row s) h) at (l .rest))

@@ -1,5 +1,5 @@
 -- The merged list as the code holds it, and the answer to a chunk's merge. Definitions only.
-use Prim.Native.Nat.{ℕ, _≤_}
+use Prim.Native.Nat.{ℕ, _≤_, _<_}
 use mathlib.Core.List.{List, [], foldl}
 use lib.ListN.{length, drop}
 unfoldable pub use Rattle.job_rows.specs.Rows.{glyphsIn}
@@ -23,10 +23,10 @@ abbrev pub mergedInto : List Glyph → Span → List ℕ → ℕ → ℕ → Out
 mergedInto gs span s first n =
     mergeDone (foldl (mergeGlyph span) (merging gs [] 0 0) (records (λ b. glyphBytes) glyphOf n (drop first s)))
 
--- the list is no longer than its limit
+-- the list is no longer than its limit; a refusal has a number
 abbrev pub Held : Merge → Type 0
 Held (M.Merged n) = n ≤ limits .merged
-Held (M.Refused k) = Unit {0}
+Held (M.Refused k) = 0 < k
 
 -- a span's own list is no longer than its limit, as check 3 has it
 abbrev pub FewGlyphs : SpanParts → Type 0

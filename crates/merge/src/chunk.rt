@@ -3,12 +3,15 @@ use crate::Merge;
 use crate::firsts::BUCKET;
 use crate::firsts::follow_step;
 use crate::firsts::put_firsts;
+use crate::firsts::renew_firsts;
+use crate::glyph::GLYPH_STEP;
 use crate::glyph::index_at;
 use crate::moves::list_rows;
 use crate::step::Progress;
 use crate::step::Step;
 use crate::step::merge_glyph;
 use job_rows::rows::span_at;
+use job_rows::sizes::GLYPH_COUNT_BYTES;
 use job_rows::sizes::glyph_count;
 use job_rows::sizes::glyphs_at;
 use labels::Job;
@@ -25,7 +28,7 @@ ghost use Rattle.labels.specs.Merge.{mergeSpan, mergeGlyphs};
 ghost use Rattle.laws.proofs.All.{All};
 ghost use Rattle.job_rows.specs.Rows.{partsIn};
 ghost use Rattle.merge.specs.Merged.{glyphsIn, mergedOf, mergedInto, Held, FewGlyphs};
-ghost use Rattle.merge.specs.Steps.{Below, NoLater};
+ghost use Rattle.merge.specs.Steps.{NoLater, Begun, OwnFew, Ended};
 
 // The entries of a table of first places for the longest text.
 const BUCKETS: usize = Job::TEXT / BUCKET;
@@ -33,11 +36,7 @@ const BUCKETS: usize = Job::TEXT / BUCKET;
 // A span of so few glyphs, or one that meets a list of so few, is merged without a table: to fill one would take longer than the walks.
 const FEW: usize = 16;
 
-// A search walks up to twice as many glyphs as were inserted or removed since the table was made. Past this number it is made anew, which
-// takes a walk of the whole list.
-const SLACK: usize = 32;
-
-// The `n` glyphs that stand from `first` on are merged into a list that is not empty. A place that is replaced gets the span's stamp as its
+// The span's own glyphs are merged into a list that is not empty. A place that is replaced gets the span's stamp as its
 // mark. The marks that earlier spans left are less, so that they need not be cleared.
 // A glyph that takes the place of another has its byte index, so the table of first places stays right while the count does not change.
 fn merge_glyphs(
@@ -48,44 +47,38 @@ fn merge_glyphs(
     firsts: &mut [u16],
     stamp: u8,
     count: usize,
-    first: u32,
-    n: usize,
+    own: GlyphRows,
 ) -> Merge
-    requires { ⌜ (length (now rows) ≡ 1024) × (length (now marks) ≡ 1024) × Below stamp (now marks)
-        × (count ≤ 1024) × (n ≤ 1024) × (first ≤ 2_000_000) × NoLater 0 (now firsts) (glyphsIn (now s) (now rows) count) ⌝ }
-    ensures { λ r. ⌜ (length (now (rows .exit)) ≡ 1024) × (length (now (marks .exit)) ≡ 1024) × Below (stamp + 1) (now (marks .exit))
-        × Held r
-        × (mergedOf r (now (s .entry)) (now (rows .exit))
-        ≡ mergedInto (glyphsIn (now (s .entry)) (now (rows .entry)) count) span (now (s .entry)) first n) ⌝ }
+    requires { ⌜ Begun (now rows) (now marks) stamp count × OwnFew own × NoLater 0 (now firsts) (glyphsIn (now s) (now rows) count) ⌝ }
+    ensures { λ r. ⌜ Ended r (now (s .entry)) (now (rows .exit)) (now (marks .exit)) stamp
+        (mergedInto (glyphsIn (now (s .entry)) (now (rows .entry)) count) span (now (s .entry)) (own .first) (own .count)) ⌝ }
 {
     let mut at = Progress {
         count,
         owed: 0,
         next: 0,
+        slack: 0,
+        stamp,
     };
-    let mut slack: usize = 0;
-    let mut row = first;
-    let mut left = n;
+    let mut row = own.first;
+    let mut left = own.count;
     while 0 < left {
-        match merge_glyph(s, span, rows, marks, firsts, slack, stamp, at, row) {
+        match merge_glyph(s, span, rows, marks, firsts, at, row) {
             Step::Going(next) => {
-                slack = follow_step(
+                let slack = follow_step(
                     firsts,
                     at.count,
                     next.count,
                     index_at(s, row),
                     at.next,
-                    slack,
+                    at.slack,
                 );
                 at = next;
+                at.slack = renew_firsts(s, rows, next.count, firsts, slack);
             }
             Step::Halted(k) => return Merge::Refused(k),
         }
-        if SLACK < slack {
-            put_firsts(s, rows, at.count, firsts);
-            slack = 0;
-        }
-        row += 25;
+        row += GLYPH_STEP;
         left -= 1;
     }
     Merge::Merged(at.count)
@@ -99,19 +92,15 @@ fn merge_many(
     marks: &mut [u8; 1024],
     stamp: u8,
     count: usize,
-    first: u32,
-    n: usize,
+    own: GlyphRows,
 ) -> Merge
-    requires { ⌜ (length (now rows) ≡ 1024) × (length (now marks) ≡ 1024) × Below stamp (now marks)
-        × (count ≤ 1024) × (n ≤ 1024) × (first ≤ 2_000_000) ⌝ }
-    ensures { λ r. ⌜ (length (now (rows .exit)) ≡ 1024) × (length (now (marks .exit)) ≡ 1024) × Below (stamp + 1) (now (marks .exit))
-        × Held r
-        × (mergedOf r (now (s .entry)) (now (rows .exit))
-        ≡ mergedInto (glyphsIn (now (s .entry)) (now (rows .entry)) count) span (now (s .entry)) first n) ⌝ }
+    requires { ⌜ Begun (now rows) (now marks) stamp count × OwnFew own ⌝ }
+    ensures { λ r. ⌜ Ended r (now (s .entry)) (now (rows .exit)) (now (marks .exit)) stamp
+        (mergedInto (glyphsIn (now (s .entry)) (now (rows .entry)) count) span (now (s .entry)) (own .first) (own .count)) ⌝ }
 {
     let mut firsts = [0u16; BUCKETS];
     put_firsts(s, rows, count, &mut firsts);
-    merge_glyphs(s, span, rows, marks, &mut firsts, stamp, count, first, n)
+    merge_glyphs(s, span, rows, marks, &mut firsts, stamp, count, own)
 }
 
 // The glyph rows of a span: the place of the first, and how many there are.
@@ -127,7 +116,7 @@ fn glyph_rows(s: &[u8], at: usize) -> GlyphRows
         × (records (λ b. glyphBytes) glyphOf (r .count) (drop (r .first) (now (s .entry))) ≡ partsOf (drop at (now (s .entry))) .glyphs) ⌝ }
 {
     let span = from(s, at);
-    let first = (cut(s, at) + glyphs_at(span) + 2) as u32;
+    let first = (cut(s, at) + glyphs_at(span) + GLYPH_COUNT_BYTES) as u32;
     GlyphRows {
         first,
         count: glyph_count(span),
@@ -155,25 +144,20 @@ pub fn merge_span(
     stamp: u8,
     count: usize,
 ) -> Merge
-    requires { ⌜ (length (now s) ≤ 1_048_576) × FewGlyphs (partsOf (drop at (now s))) × (length (now rows) ≡ 1024)
-        × (length (now marks) ≡ 1024) × Below stamp (now marks) × (count ≤ 1024) ⌝ }
-    ensures { λ r. ⌜ (length (now (rows .exit)) ≡ 1024) × (length (now (marks .exit)) ≡ 1024) × Below (stamp + 1) (now (marks .exit))
-        × Held r
-        × (mergedOf r (now (s .entry)) (now (rows .exit))
-        ≡ mergeSpan (given (glyphsIn (now (s .entry)) (now (rows .entry)) count)) (partsOf (drop at (now (s .entry))))) ⌝ }
+    requires { ⌜ (length (now s) ≤ 1_048_576) × FewGlyphs (partsOf (drop at (now s))) × Begun (now rows) (now marks) stamp count ⌝ }
+    ensures { λ r. ⌜ Ended r (now (s .entry)) (now (rows .exit)) (now (marks .exit)) stamp
+        (mergeSpan (given (glyphsIn (now (s .entry)) (now (rows .entry)) count)) (partsOf (drop at (now (s .entry))))) ⌝ }
 {
     let own = glyph_rows(s, at);
-    let first = own.first;
-    let n = own.count;
     if count == 0 {
         return Merge::Merged(list_span(s, at, rows));
     }
     let span = span_at(s, at);
-    if (n <= FEW) | (count <= FEW) {
+    if (own.count <= FEW) | (count <= FEW) {
         let mut none = [0u16; 1];
-        return merge_glyphs(s, span, rows, marks, &mut none[..0], stamp, count, first, n);
+        return merge_glyphs(s, span, rows, marks, &mut none[..0], stamp, count, own);
     }
-    merge_many(s, span, rows, marks, stamp, count, first, n)
+    merge_many(s, span, rows, marks, stamp, count, own)
 }
 
 // The spans one after the other. The marks are cleared once; a span's stamp is its number, from 1 on.

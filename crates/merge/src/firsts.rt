@@ -12,6 +12,10 @@ ghost use Rattle.merge.specs.Steps.{bucketOf, NoLater, lowered};
 // How many neighbouring byte indexes share an entry.
 pub const BUCKET: usize = 32;
 
+// A search walks up to twice as many glyphs as were inserted or removed since the table was made. Past this number it is made anew, which
+// takes a walk of the whole list.
+const SLACK: usize = 32;
+
 // Where the search for byte index `index` begins: at the list's start where the table has no entry for it.
 pub fn first_of(firsts: &[u16], index: u16, slack: usize) -> usize
     ensures { λ r. ⌜ r ≡ getD (now (firsts .entry)) (bucketOf index) 0 - slack ⌝ }
@@ -93,4 +97,16 @@ pub fn follow_step(
     }
     let removed = old - count;
     slack + removed
+}
+
+// The table for a list of `count` glyphs, made anew if its slack is past its limit; the result is its slack then.
+pub fn renew_firsts(s: &[u8], rows: &[u32], count: usize, firsts: &mut [u16], slack: usize) -> usize
+    requires { ⌜ (count ≤ length (now rows)) × (count ≤ 1024) × NoLater slack (now firsts) (glyphsIn (now s) (now rows) count) ⌝ }
+    ensures { λ r. ⌜ (r ≤ 32) × NoLater r (now (firsts .exit)) (glyphsIn (now (s .entry)) (now (rows .entry)) count) ⌝ }
+{
+    if SLACK < slack {
+        put_firsts(s, rows, count, firsts);
+        return 0;
+    }
+    slack
 }

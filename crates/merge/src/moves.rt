@@ -1,5 +1,6 @@
 // Moves of the merged list's rows, in place: the array is lent, and nothing else is copied.
 // A contract speaks of the glyphs that stand at the rows in any record.
+use crate::glyph::GLYPH_STEP;
 ghost use mathlib.Core.Path.{_≡_};
 ghost use mathlib.Core.List.{List};
 ghost use Prim.Native.Nat.{ℕ, _+_, _-_, _≤_, _<_};
@@ -19,7 +20,7 @@ pub fn list_rows(rows: &mut [u32], first: u32, n: usize)
     let mut i: usize = 0;
     while i < n {
         rows[i] = row;
-        row += 25;
+        row += GLYPH_STEP;
         i += 1;
     }
 }

@@ -2,30 +2,30 @@
 use crate::firsts::first_of;
 use crate::glyph::index_at;
 use crate::glyph::length_at;
-use crate::glyph::span_contains;
 use crate::moves::insert_row;
 use crate::moves::remove_rows;
 use crate::moves::replace_row;
 use crate::search::place_of;
 use labels::Job;
 use labels::Span;
+use labels::span_contains;
 ghost use mathlib.Core.Path.{_≡_};
-ghost use mathlib.Core.Bool.{true};
 ghost use mathlib.Core.List.{List, _∷_};
-ghost use Prim.Native.Nat.{ℕ, _+_, _≤_, _<_};
+ghost use Prim.Native.Nat.{ℕ, _+_, _<_};
 ghost use lib.ListN.{length, drop};
-ghost use Rattle.labels.specs.declared.Span as S;
 ghost use Rattle.labels.specs.Decode.{glyphOf};
-ghost use Rattle.labels.specs.Merge.{merging, spanContains, replaceLonger, insertNext, replaceFirst, mergeGlyph};
+ghost use Rattle.labels.specs.Merge.{merging, replaceLonger, insertNext, mergeGlyph};
 ghost use Rattle.merge.specs.Merged.{glyphsIn};
-ghost use Rattle.merge.specs.Steps.{replacedAt, mergingOf, Within, Marked, Stands, NoLater};
+ghost use Rattle.merge.specs.Steps.{replacedAt, mergingOf, Fits, Takes, Within, Stepped, Ready, FirstReplaced};
 
-// Where the merge of a span stands: how many glyphs the list has, and how many of the next glyphs are still to be inserted unfiltered,
-// with the place for the first of them.
+// Where the merge of a span stands: how many glyphs the list has; how many of the next glyphs are still to be inserted unfiltered, with the
+// place for the first of them; the slack of the table of first places; and the span's stamp.
 pub struct Progress {
     pub count: usize,
     pub owed: usize,
     pub next: usize,
+    pub slack: usize,
+    pub stamp: u8,
 }
 
 // The next glyph is merged, or the merge is refused with a number.
@@ -35,81 +35,92 @@ pub enum Step {
 }
 
 // One of the next glyphs is inserted at place `next`; 8 where the list is full.
-pub fn insert_next(rows: &mut [u32; 1024], count: usize, owed: usize, next: usize, row: u32) -> Step
-    requires { ⌜ (length (now rows) ≡ 1024) × (next ≤ count) × (count ≤ 1024) × (0 < owed) ⌝ }
-    ensures { λ r. ⌜ (length (now (rows .exit)) ≡ 1024)
-        × Within r
+pub fn insert_next(rows: &mut [u32; 1024], at: Progress, row: u32) -> Step
+    requires { ⌜ (length (now rows) ≡ 1024) × Fits at × (0 < at .owed) ⌝ }
+    ensures { λ r. ⌜ (length (now (rows .exit)) ≡ 1024) × Within at r
         × ((s positions : List ℕ) → mergingOf r s (now (rows .exit)) positions
-        ≡ insertNext (glyphOf (drop row s)) (glyphsIn s (now (rows .entry)) count) positions owed next) ⌝ }
+        ≡ insertNext (glyphOf (drop row s)) (glyphsIn s (now (rows .entry)) (at .count)) positions (at .owed) (at .next)) ⌝ }
 {
-    if count < Job::MERGED {
-        insert_row(rows, count, next, row);
+    if at.count < Job::MERGED {
+        insert_row(rows, at.count, at.next, row);
         return Step::Going(Progress {
-            count: count + 1,
-            owed: owed - 1,
-            next: next + 1,
+            count: at.count + 1,
+            owed: at.owed - 1,
+            next: at.next + 1,
+            slack: at.slack,
+            stamp: at.stamp,
         });
     }
     Step::Halted(8)
 }
 
 // The glyph at `row` takes place `p` and that of the `gone` glyphs after it; 7 where the list ends before.
-pub fn replace_longer(rows: &mut [u32; 1024], count: usize, p: usize, row: u32, gone: usize) -> Step
-    requires { ⌜ (length (now rows) ≡ 1024) × (p < count) × (count ≤ 1024) × (gone < 256) ⌝ }
-    ensures { λ r. ⌜ (length (now (rows .exit)) ≡ 1024)
-        × Within r
+pub fn replace_longer(rows: &mut [u32; 1024], at: Progress, p: usize, row: u32, gone: usize) -> Step
+    requires { ⌜ Takes at (now rows) p × (gone < 256) ⌝ }
+    ensures { λ r. ⌜ (length (now (rows .exit)) ≡ 1024) × Within at r
         × ((s positions : List ℕ) → gone + 1 ≡ glyphOf (drop row s) .length → mergingOf r s (now (rows .exit)) (p ∷ positions)
-        ≡ replaceLonger (glyphOf (drop row s)) p (glyphsIn s (now (rows .entry)) count) positions) ⌝ }
+        ≡ replaceLonger (glyphOf (drop row s)) p (glyphsIn s (now (rows .entry)) (at .count)) positions) ⌝ }
 {
-    if p + gone < count {
-        let left = count - gone;
-        remove_rows(rows, count, p, gone);
+    if p + gone < at.count {
+        let left = at.count - gone;
+        remove_rows(rows, at.count, p, gone);
         replace_row(rows, left, p, row);
         return Step::Going(Progress {
             count: left,
             owed: 0,
             next: 0,
+            slack: at.slack,
+            stamp: at.stamp,
         });
     }
     Step::Halted(7)
 }
 
 // The glyph at `row` takes place `p`. If it is shorter than the one there, up to the old length - 1 of the next follow it.
-pub fn replace(s: &[u8], rows: &mut [u32; 1024], count: usize, p: usize, row: u32) -> Step
-    requires { ⌜ (length (now rows) ≡ 1024) × (p < count) × (count ≤ 1024) ⌝ }
-    ensures { λ r. ⌜ (length (now (rows .exit)) ≡ 1024)
-        × Within r
+pub fn replace(s: &[u8], rows: &mut [u32; 1024], at: Progress, p: usize, row: u32) -> Step
+    requires { ⌜ Takes at (now rows) p ⌝ }
+    ensures { λ r. ⌜ (length (now (rows .exit)) ≡ 1024) × Within at r
         × ((positions : List ℕ) → mergingOf r (now (s .entry)) (now (rows .exit)) (p ∷ positions)
-        ≡ replacedAt (glyphOf (drop row (now (s .entry)))) p (glyphsIn (now (s .entry)) (now (rows .entry)) count) positions) ⌝ }
+        ≡ replacedAt (glyphOf (drop row (now (s .entry)))) p (glyphsIn (now (s .entry)) (now (rows .entry)) (at .count)) positions) ⌝ }
 {
     let old = length_at(s, rows[p]);
     let new = length_at(s, row);
     if old < new {
-        return replace_longer(rows, count, p, row, new - 1);
+        return replace_longer(rows, at, p, row, new - 1);
     }
-    replace_row(rows, count, p, row);
+    replace_row(rows, at.count, p, row);
     let next = p + 1;
     if new < old {
         let owed = old - 1;
-        return Step::Going(Progress { count, owed, next });
+        return Step::Going(Progress {
+            count: at.count,
+            owed,
+            next,
+            slack: at.slack,
+            stamp: at.stamp,
+        });
     }
     Step::Going(Progress {
-        count,
+        count: at.count,
         owed: 0,
         next,
+        slack: at.slack,
+        stamp: at.stamp,
     })
 }
 
 // The next glyph is skipped.
-fn skip(count: usize) -> Step
-    requires { ⌜ count ≤ 1024 ⌝ }
-    ensures { λ r. ⌜ Within r
-        × ((s rows positions : List ℕ) → mergingOf r s rows positions ≡ merging (glyphsIn s rows count) positions 0 0) ⌝ }
+fn skip(at: Progress) -> Step
+    requires { ⌜ Fits at ⌝ }
+    ensures { λ r. ⌜ Within at r
+        × ((s rows positions : List ℕ) → mergingOf r s rows positions ≡ merging (glyphsIn s rows (at .count)) positions 0 0) ⌝ }
 {
     Step::Going(Progress {
-        count,
+        count: at.count,
         owed: 0,
         next: 0,
+        slack: at.slack,
+        stamp: at.stamp,
     })
 }
 
@@ -120,29 +131,23 @@ pub fn replace_first(
     rows: &mut [u32; 1024],
     marks: &mut [u8; 1024],
     firsts: &[u16],
-    slack: usize,
-    stamp: u8,
-    count: usize,
+    at: Progress,
     row: u32,
     index: u16,
 ) -> Step
-    requires { ⌜ (length (now rows) ≡ 1024) × (length (now marks) ≡ 1024) × (count ≤ 1024) × (index ≡ glyphOf (drop row (now s)) .index)
-        × NoLater slack (now firsts) (glyphsIn (now s) (now rows) count) ⌝ }
-    ensures { λ r. ⌜ (length (now (rows .exit)) ≡ 1024) × (length (now (marks .exit)) ≡ 1024)
-        × Within r
-        × ((span : S.Span) (positions : List ℕ) → spanContains span index ≡ true → Marked stamp (now (marks .entry)) positions
-        → Stands r (now (s .entry)) (now (rows .exit)) stamp (now (marks .exit))
-        (replaceFirst span (glyphOf (drop row (now (s .entry)))) (glyphsIn (now (s .entry)) (now (rows .entry)) count) positions)) ⌝ }
+    requires { ⌜ Ready at (now s) (now rows) (now marks) (now firsts) × (index ≡ glyphOf (drop row (now s)) .index) ⌝ }
+    ensures { λ r. ⌜ FirstReplaced at r (now (s .entry)) (now (rows .entry)) (now (rows .exit)) (now (marks .entry)) (now (marks .exit))
+        (glyphOf (drop row (now (s .entry)))) ⌝ }
 {
-    let p = place_of(s, rows, count, index, first_of(firsts, index, slack));
-    if count <= p {
-        return skip(count);
+    let p = place_of(s, rows, at.count, index, first_of(firsts, index, at.slack));
+    if at.count <= p {
+        return skip(at);
     }
-    if marks[p] == stamp {
-        return skip(count);
+    if marks[p] == at.stamp {
+        return skip(at);
     }
-    marks[p] = stamp;
-    replace(s, rows, count, p, row)
+    marks[p] = at.stamp;
+    replace(s, rows, at, p, row)
 }
 
 // The next glyph of the span, which stands at `row`. One that is owed is inserted whether or not the span covers it.
@@ -152,26 +157,21 @@ pub fn merge_glyph(
     rows: &mut [u32; 1024],
     marks: &mut [u8; 1024],
     firsts: &[u16],
-    slack: usize,
-    stamp: u8,
     at: Progress,
     row: u32,
 ) -> Step
-    requires { ⌜ (length (now rows) ≡ 1024) × (length (now marks) ≡ 1024) × (at .count ≤ 1024) × (at .next ≤ at .count)
-        × NoLater slack (now firsts) (glyphsIn (now s) (now rows) (at .count)) ⌝ }
-    ensures { λ r. ⌜ (length (now (rows .exit)) ≡ 1024) × (length (now (marks .exit)) ≡ 1024)
-        × Within r
-        × ((positions : List ℕ) → Marked stamp (now (marks .entry)) positions → Stands r (now (s .entry)) (now (rows .exit)) stamp (now (marks .exit))
-        (mergeGlyph span (merging (glyphsIn (now (s .entry)) (now (rows .entry)) (at .count)) positions (at .owed) (at .next))
-        (glyphOf (drop row (now (s .entry)))))) ⌝ }
+    requires { ⌜ Ready at (now s) (now rows) (now marks) (now firsts) ⌝ }
+    ensures { λ r. ⌜ Stepped at r (now (s .entry)) (now (rows .exit)) (now (marks .entry)) (now (marks .exit))
+        (λ positions. mergeGlyph span (merging (glyphsIn (now (s .entry)) (now (rows .entry)) (at .count)) positions (at .owed) (at .next))
+        (glyphOf (drop row (now (s .entry))))) ⌝ }
 {
     let index = index_at(s, row);
-    let covered = span_contains(span, index);
+    let covered = span_contains(span, index as u32);
     if 0 < at.owed {
-        return insert_next(rows, at.count, at.owed, at.next, row);
+        return insert_next(rows, at, row);
     }
     if !covered {
-        return skip(at.count);
+        return skip(at);
     }
-    replace_first(s, rows, marks, firsts, slack, stamp, at.count, row, index)
+    replace_first(s, rows, marks, firsts, at, row, index)
 }

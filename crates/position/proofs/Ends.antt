@@ -67,10 +67,10 @@ module _ (anchor : ℕ) (cs : List Cluster) (e : Extent) (first last : Cluster) 
       begin = rw (← ee, ef (λ (c : Cluster). c .x), es)
 
 -- ---- step 7: the stages one after the other
-pub stages : (job : Job) (offset : ℕ) (chunk : Chunk) (cs : List Cluster) {mode anchor : ℕ} {shifted turned marked placed : List Cluster} {r : Positioned} → job .mode ≡ mode → chunk .anchor ≡ anchor
-    → shifted ≡ resolveRelativeShifts rounded job (chunk .text) offset cs → turned ≡ turnShifts rounded mode shifted → marked ≡ markRelativeShifts job (chunk .text) offset turned
+pub stages : (job : Job) (offset : ℕ) (chunk : Chunk) (cs : List Cluster) {anchor : ℕ} {shifted turned marked placed : List Cluster} {r : Positioned} → chunk .anchor ≡ anchor
+    → shifted ≡ resolveRelativeShifts rounded job (chunk .text) offset cs → turned ≡ turnShifts rounded (job .mode) shifted → marked ≡ markRelativeShifts job (chunk .text) offset turned
     → Placed (positioned rounded anchor marked) placed r → Placed (resolveClustersPositionsHorizontal job offset chunk cs) placed r
 unfolding resolveClustersPositionsHorizontal
-stages job offset chunk cs {marked = marked} em ea es et ek p =
-    let e : marked ≡ markRelativeShifts job (chunk .text) offset (turnShifts rounded (job .mode) (resolveRelativeShifts rounded job (chunk .text) offset cs)) = rw (ek, et, es, em) in
+stages job offset chunk cs {marked = marked} ea es et ek p =
+    let e : marked ≡ markRelativeShifts job (chunk .text) offset (turnShifts rounded (job .mode) (resolveRelativeShifts rounded job (chunk .text) offset cs)) = rw (ek, et, es) in
     rw (e, ← ea) at p

@@ -1,13 +1,15 @@
 -- What the stages of step 7 are given beside the clusters, and what they return. Definitions only.
-use Prim.Native.Nat.{ℕ, _≤_}
+use Prim.Native.Nat.{ℕ, _≤_, _<_}
 use mathlib.Core.Path.{_≡_}
 use mathlib.Core.List.{List, map}
 use lib.ListN.{length, take}
 use lib.Ieee.{Float}
 use Rattle.labels.specs.declared.Cluster.{Cluster}
+use Rattle.labels.specs.Job.{Job, Chunk}
 use Rattle.labels.specs.Position as labels
 use Rattle.labels.specs.Position.{logicalOrder, characterNumber}
-use Rattle.clusters.specs.Clusters.{indexesIn}
+use Rattle.labels.specs.Layout.{resolveClustersPositionsHorizontal}
+use Rattle.clusters.specs.Clusters.{clustersOf, indexesIn}
 use Rattle.text_order.specs.Keys.{keyOf}
 use Rattle.position.specs.declared.Extent.{Extent}
 use Rattle.position.specs.declared.Positioned.{Positioned}
@@ -23,6 +25,12 @@ pub record Ordered (order : List ℕ) (words : List (List ℕ)) (n : ℕ) : Type
 abbrev pub Numbered : List ℕ → ℕ → List ℕ → List (List ℕ) → ℕ → Type 0
 Numbered text offset numbers words n = take n numbers ≡ map (characterNumber text offset) (indexesIn words n)
 
+-- there are n clusters, at least one, and each has its row of floats and the number of its character
+pub record Placeable (numbers : List ℕ) (floats : List (List Float)) (n : ℕ) : Type 0 where
+  pub some : 0 < n
+  pub rows : n ≤ length floats
+  pub numbered : n ≤ length numbers
+
 abbrev pub extentIn : Extent → labels.Extent Float
 extentIn e = record { left = e .left; right = e .right; advance = e .advance }
 
@@ -32,3 +40,9 @@ pub record Placed (p : labels.Positioned Float Cluster) (cs : List Cluster) (r :
   pub extent : r .extent ≡ p .extent
   pub endX : r .«end_x» ≡ p .endX
   pub endY : r .«end_y» ≡ p .endY
+
+-- so are they in step 7 of the job, for every chunk of this anchor whose clusters' characters have these numbers
+abbrev pub PlacedChunk : Job → ℕ → List ℕ → List (List Float) → List (List ℕ) → ℕ → List Cluster → Positioned → Type 0
+PlacedChunk job anchor numbers floats words n placed r =
+    (offset : ℕ) (chunk : Chunk) → chunk .anchor ≡ anchor → Numbered (chunk .text) offset numbers words n
+    → Placed (resolveClustersPositionsHorizontal job offset chunk (clustersOf floats words n)) placed r

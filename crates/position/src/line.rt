@@ -8,17 +8,16 @@ use crate::shifts::turn_shifts;
 use crate::shifts::with_shift;
 use clusters::cluster_at;
 use clusters::put_floats;
+use labels::Job;
 ghost use mathlib.Core.Path.{_≡_};
 ghost use mathlib.Core.List.{foldl};
-ghost use Prim.Native.Nat.{ℕ, _≤_, _<_};
+ghost use Prim.Native.Nat.{_≤_, _<_};
 ghost use lib.ListN.{length};
-ghost use Rattle.labels.specs.Job.{Job, Chunk};
-ghost use Rattle.labels.specs.Decode.{listOf};
 ghost use Rattle.labels.specs.Position.{processAnchor, pastAdvance, placedFrom, positioned};
 ghost use Rattle.labels.specs.Cluster.{rounded};
-ghost use Rattle.labels.specs.Layout.{resolveClustersPositionsHorizontal};
 ghost use Rattle.clusters.specs.Clusters.{clustersOf};
-ghost use Rattle.position.specs.Given.{Ordered, Numbered, Placed};
+ghost use Rattle.job_rows.specs.Rows.{jobAt};
+ghost use Rattle.position.specs.Given.{Ordered, Placeable, Placed, PlacedChunk};
 
 pub fn process_anchor(anchor: u8, width: f32) -> f32
     ensures { λ r. ⌜ r ≡ processAnchor rounded anchor width ⌝ }
@@ -77,27 +76,23 @@ pub fn positioned(
     }
 }
 
-// Of a chunk that has clusters. What is promised holds of every job and chunk that have these lists, this mode and anchor, and these numbers.
+// Of a chunk that has clusters.
 pub fn resolve_clusters_positions_horizontal(
-    mode: u8,
+    s: &[u8],
+    job: Job,
     anchor: u8,
-    dx: &[u8],
-    dy: &[u8],
-    rotate: &[u8],
     order: &[u32],
     numbers: &[u32],
     floats: &mut [[f32; 10]],
     words: &mut [[u32; 6]],
     n: usize,
 ) -> Positioned
-    requires { ⌜ (0 < n) × (n ≤ length (now floats)) × (n ≤ length (now numbers)) × Ordered (now order) (now words) n ⌝ }
-    ensures { λ r. ⌜ ((job : Job) (offset : ℕ) (chunk : Chunk) → job .mode ≡ mode → job .dx ≡ listOf (now (dx .entry)) → job .dy ≡ listOf (now (dy .entry))
-        → job .rotate ≡ listOf (now (rotate .entry)) → chunk .anchor ≡ anchor → Numbered (chunk .text) offset (now (numbers .entry)) (now (words .entry)) n
-        → Placed (resolveClustersPositionsHorizontal job offset chunk (clustersOf (now (floats .entry)) (now (words .entry)) n))
-        (clustersOf (now (floats .exit)) (now (words .exit)) n) r) ⌝ }
+    requires { ⌜ Placeable (now numbers) (now floats) n × Ordered (now order) (now words) n ⌝ }
+    ensures { λ r. ⌜ PlacedChunk (jobAt (now (s .entry)) job) anchor (now (numbers .entry)) (now (floats .entry)) (now (words .entry)) n
+        (clustersOf (now (floats .exit)) (now (words .exit)) n) r ⌝ }
 {
-    resolve_relative_shifts(dx, dy, order, numbers, floats, words, n);
-    turn_shifts(mode, floats, words, n);
-    mark_relative_shifts(rotate, numbers, floats, words, n);
+    resolve_relative_shifts(s, job, order, numbers, floats, words, n);
+    turn_shifts(job.mode, floats, words, n);
+    mark_relative_shifts(s, job, numbers, floats, words, n);
     positioned(anchor, order, floats, words, n)
 }

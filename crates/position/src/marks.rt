@@ -4,20 +4,22 @@ use clusters::cluster_at;
 use clusters::put_cluster;
 use job_rows::numbered::float_in;
 use labels::Cluster;
+use labels::Job;
+use wire::place::from;
 ghost use mathlib.Core.Path.{_≡_};
 ghost use mathlib.Core.Bool.{_||_};
 ghost use mathlib.Core.List.{List};
-ghost use Prim.Native.Nat.{ℕ, _≤_, _<_};
+ghost use Prim.Native.Nat.{ℕ, _≤_};
 ghost use lib.ListN.{length, getD};
 ghost use lib.Ieee.{ne};
 ghost use Rattle.labels.specs.Single.{+0};
-ghost use Rattle.labels.specs.Job.{Job};
-ghost use Rattle.labels.specs.Decode.{listOf};
+ghost use Rattle.labels.specs.Job as definitions;
 ghost use Rattle.labels.specs.Position.{characterNumber};
 ghost use Rattle.labels.specs.ClusterParts.{withMarks};
 ghost use Rattle.labels.specs.Cluster.{marked, markRelativeShifts};
 ghost use Rattle.clusters.specs.Clusters.{clustersOf, indexesIn};
-ghost use Rattle.position.specs.Given.{Numbered};
+ghost use Rattle.job_rows.specs.Rows.{jobAt};
+ghost use Rattle.position.specs.Given.{Numbered, Placeable};
 
 fn with_marks(c: Cluster, relative: bool, rotated: bool, angle: f32) -> Cluster
     ensures { λ r. ⌜ r ≡ withMarks relative rotated angle c ⌝ }
@@ -41,7 +43,7 @@ fn shifts_differ(c: Cluster, before: Cluster) -> bool
 // A cluster that is rotated has a relative shift too.
 fn mark(c: Cluster, before: Cluster, angle: f32) -> Cluster
     ensures { λ r. ⌜ (r .index ≡ c .index)
-        × ((job : Job) (text : List ℕ) (offset : ℕ) → getD (job .rotate) (characterNumber text offset (c .index)) +0 ≡ angle → r ≡ marked job text offset before c) ⌝ }
+        × ((job : definitions.Job) (text : List ℕ) (offset : ℕ) → getD (job .rotate) (characterNumber text offset (c .index)) +0 ≡ angle → r ≡ marked job text offset before c) ⌝ }
 {
     let moved = shifts_differ(c, before);
     if angle != 0.0 {
@@ -52,18 +54,20 @@ fn mark(c: Cluster, before: Cluster, angle: f32) -> Cluster
 
 // Each cluster beside the one before it in the list, the first beside itself.
 pub fn mark_relative_shifts(
-    rotate: &[u8],
+    s: &[u8],
+    job: Job,
     numbers: &[u32],
     floats: &mut [[f32; 10]],
     words: &mut [[u32; 6]],
     n: usize,
 )
-    requires { ⌜ (0 < n) × (n ≤ length (now floats)) × (n ≤ length (now words)) × (n ≤ length (now numbers)) ⌝ }
+    requires { ⌜ Placeable (now numbers) (now floats) n × (n ≤ length (now words)) ⌝ }
     ensures { λ _. ⌜ (indexesIn (now (words .exit)) n ≡ indexesIn (now (words .entry)) n)
-        × ((job : Job) (text : List ℕ) (offset : ℕ) → job .rotate ≡ listOf (now (rotate .entry))
-        → Numbered text offset (now (numbers .entry)) (now (words .entry)) n
-        → clustersOf (now (floats .exit)) (now (words .exit)) n ≡ markRelativeShifts job text offset (clustersOf (now (floats .entry)) (now (words .entry)) n)) ⌝ }
+        × ((text : List ℕ) (offset : ℕ) → Numbered text offset (now (numbers .entry)) (now (words .entry)) n
+        → clustersOf (now (floats .exit)) (now (words .exit)) n
+        ≡ markRelativeShifts (jobAt (now (s .entry)) job) text offset (clustersOf (now (floats .entry)) (now (words .entry)) n)) ⌝ }
 {
+    let rotate = from(s, job.rotate);
     let mut before = cluster_at(floats, words, 0);
     let mut i: usize = 0;
     while i < n {

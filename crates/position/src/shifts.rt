@@ -5,15 +5,16 @@ use clusters::cluster_at;
 use clusters::put_floats;
 use job_rows::numbered::float_in;
 use labels::Cluster;
+use labels::Job;
+use wire::place::from;
 ghost use mathlib.Core.Path.{_≡_};
 ghost use mathlib.Core.List.{List, map};
 ghost use Prim.Native.Nat.{ℕ, _≤_};
 ghost use lib.ListN.{length};
-ghost use Rattle.labels.specs.Job.{Job};
-ghost use Rattle.labels.specs.Decode.{listOf};
 ghost use Rattle.labels.specs.Position.{resolveRelativeShifts, turnShift, turnShifts};
 ghost use Rattle.labels.specs.Cluster.{rounded};
 ghost use Rattle.clusters.specs.Clusters.{clustersOf};
+ghost use Rattle.job_rows.specs.Rows.{jobAt};
 ghost use Rattle.position.specs.Given.{Ordered, Numbered};
 
 pub fn with_shift(c: Cluster, x: f32, y: f32) -> Cluster
@@ -25,10 +26,10 @@ pub fn with_shift(c: Cluster, x: f32, y: f32) -> Cluster
     d
 }
 
-// `dx` and `dy` shift a character and all that follow it in text order.
+// The job's dx and dy shift a character and all that follow it in text order.
 pub fn resolve_relative_shifts(
-    dx: &[u8],
-    dy: &[u8],
+    s: &[u8],
+    job: Job,
     order: &[u32],
     numbers: &[u32],
     floats: &mut [[f32; 10]],
@@ -36,10 +37,12 @@ pub fn resolve_relative_shifts(
     n: usize,
 )
     requires { ⌜ (n ≤ length (now floats)) × (n ≤ length (now numbers)) × Ordered (now order) (now words) n ⌝ }
-    ensures { λ _. ⌜ ((job : Job) (text : List ℕ) (offset : ℕ) → job .dx ≡ listOf (now (dx .entry)) → job .dy ≡ listOf (now (dy .entry))
-        → Numbered text offset (now (numbers .entry)) (now (words .entry)) n
-        → clustersOf (now (floats .exit)) (now (words .entry)) n ≡ resolveRelativeShifts rounded job text offset (clustersOf (now (floats .entry)) (now (words .entry)) n)) ⌝ }
+    ensures { λ _. ⌜ ((text : List ℕ) (offset : ℕ) → Numbered text offset (now (numbers .entry)) (now (words .entry)) n
+        → clustersOf (now (floats .exit)) (now (words .entry)) n
+        ≡ resolveRelativeShifts rounded (jobAt (now (s .entry)) job) text offset (clustersOf (now (floats .entry)) (now (words .entry)) n)) ⌝ }
 {
+    let dx = from(s, job.dx);
+    let dy = from(s, job.dy);
     let mut x: f32 = 0.0;
     let mut y: f32 = 0.0;
     let mut i: usize = 0;
@@ -76,7 +79,7 @@ pub fn turn_shifts(mode: u8, floats: &mut [[f32; 10]], words: &[[u32; 6]], n: us
     requires { ⌜ (n ≤ length (now floats)) × (n ≤ length (now words)) ⌝ }
     ensures { λ _. ⌜ clustersOf (now (floats .exit)) (now (words .entry)) n ≡ turnShifts rounded mode (clustersOf (now (floats .entry)) (now (words .entry)) n) ⌝ }
 {
-    if mode == 1 {
+    if mode == Job::TOP_TO_BOTTOM {
         turn_all(floats, words, n);
     }
 }

@@ -2,13 +2,12 @@
 use clusters::cluster_at;
 use clusters::put_floats;
 use labels::Cluster;
+use labels::Job;
 ghost use mathlib.Core.Path.{_≡_};
 ghost use Prim.Native.Nat.{_≤_};
 ghost use lib.ListN.{length};
 ghost use Rattle.labels.specs.Cluster.{turned, applyWritingMode};
 ghost use Rattle.clusters.specs.Clusters.{clustersOf};
-
-pub const TOP_TO_BOTTOM: u8 = 1;
 
 // The cluster moved to the middle of the line. Of an upright one ascent and descent become plus and minus half the width.
 pub fn turned(c: Cluster) -> Cluster
@@ -28,7 +27,7 @@ pub fn apply_writing_mode(mode: u8, floats: &mut [[f32; 10]], words: &[[u32; 6]]
     ensures { λ _. ⌜ clustersOf (now (floats .exit)) (now (words .entry)) n
         ≡ applyWritingMode mode (clustersOf (now (floats .entry)) (now (words .entry)) n) ⌝ }
 {
-    if mode != TOP_TO_BOTTOM {
+    if mode != Job::TOP_TO_BOTTOM {
         return;
     }
     let mut i: usize = 0;

@@ -1,4 +1,6 @@
 // Letter and word spacing: those of a chunk's spans, of which only the float that is asked for is read, and a cluster with one added.
+use job_rows::sizes::SPAN_LETTER_AT;
+use job_rows::sizes::SPAN_WORD_AT;
 use labels::Cluster;
 use wire::read::f32_at;
 ghost use mathlib.Core.Path.{_≡_};
@@ -23,8 +25,8 @@ fn spacing_of(row: &[u8], spacing: Spacing) -> f32
     ensures { λ r. ⌜ r ≡ spacingOf spacing (spanOf (now (row .entry))) ⌝ }
 {
     match spacing {
-        Spacing::Letter => f32_at(row, 9),
-        Spacing::Word => f32_at(row, 13),
+        Spacing::Letter => f32_at(row, SPAN_LETTER_AT),
+        Spacing::Word => f32_at(row, SPAN_WORD_AT),
     }
 }
 

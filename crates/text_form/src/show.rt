@@ -1,6 +1,28 @@
 // An answer's lines: each chunk, its clusters, then each span followed by its runs. A refused job has one line.
 use crate::line;
-use crate::rows;
+use answer_format::ADVANCE_AT;
+use answer_format::ANSWER_HEAD_BYTES;
+use answer_format::BASELINE_SHIFT_AT;
+use answer_format::CHUNK_COUNT_AT;
+use answer_format::CHUNK_HEAD_BYTES;
+use answer_format::CLUSTER_COUNT_AT;
+use answer_format::CLUSTER_FLAGS_AT;
+use answer_format::CLUSTER_FLOATS_AT;
+use answer_format::CLUSTER_INDEX_AT;
+use answer_format::PEN_X_AT;
+use answer_format::PEN_Y_AT;
+use answer_format::RUN_BYTES;
+use answer_format::RUN_COUNT_AT;
+use answer_format::RUN_FIRST_AT;
+use answer_format::RUN_WIDTH_AT;
+use answer_format::RUNS_AT;
+use answer_format::SHIFT_X_AT;
+use answer_format::SPAN_COUNT_AT;
+use answer_format::SPAN_INDEX_AT;
+use answer_format::THICKNESS_AT;
+use answer_format::UNDER_OFFSET_AT;
+use answer_format::cluster_size;
+use answer_format::span_size;
 ghost use mathlib.Core.Path.{_≡_};
 ghost use lib.ListN.{drop};
 ghost use Rattle.labels.specs.Answer.{chunkRowSizeOf};
@@ -13,38 +35,38 @@ use wire::read::u16_at;
 fn show_cluster(i: usize, row: &[u8]) {
     line::start(b"cluster");
     line::number(i as u64);
-    line::number(u16_at(row, rows::BYTE_INDEX_AT) as u64);
-    line::number(u8_at(row, rows::FLAGS_AT) as u64);
-    line::float(row, rows::WIDTH_AT);
-    line::float(row, rows::ADVANCE_AT);
-    line::float(row, rows::SHIFT_X_AT);
+    line::number(u16_at(row, CLUSTER_INDEX_AT) as u64);
+    line::number(u8_at(row, CLUSTER_FLAGS_AT) as u64);
+    line::float(row, CLUSTER_FLOATS_AT);
+    line::float(row, ADVANCE_AT);
+    line::float(row, SHIFT_X_AT);
     line::end();
 }
 
 fn show_run(span: u8, run: &[u8]) {
     line::start(b"run");
     line::number(span as u64);
-    line::number(u16_at(run, rows::FIRST_CLUSTER_AT) as u64);
-    line::float(run, rows::RUN_WIDTH_AT);
+    line::number(u16_at(run, RUN_FIRST_AT) as u64);
+    line::float(run, RUN_WIDTH_AT);
     line::end();
 }
 
 fn show_runs(row: &[u8]) {
-    let span = u8_at(row, rows::SPAN_INDEX_AT);
-    let count = u16_at(row, rows::RUN_COUNT_AT) as usize;
-    let mut at = rows::RUNS_AT;
+    let span = u8_at(row, SPAN_INDEX_AT);
+    let count = u16_at(row, RUN_COUNT_AT) as usize;
+    let mut at = RUNS_AT;
     for _ in 0..count {
         show_run(span, from(row, at));
-        at = after(row, at, rows::RUN_BYTES);
+        at = after(row, at, RUN_BYTES);
     }
 }
 
 fn show_span(row: &[u8]) {
     line::start(b"span");
-    line::number(u8_at(row, rows::SPAN_INDEX_AT) as u64);
-    line::float(row, rows::BASELINE_SHIFT_AT);
-    line::float(row, rows::THICKNESS_AT);
-    line::float(row, rows::UNDER_OFFSET_AT);
+    line::number(u8_at(row, SPAN_INDEX_AT) as u64);
+    line::float(row, BASELINE_SHIFT_AT);
+    line::float(row, THICKNESS_AT);
+    line::float(row, UNDER_OFFSET_AT);
     line::end();
     show_runs(row);
 }
@@ -61,11 +83,11 @@ fn show_row(kind: RowKind, i: usize, row: &[u8]) -> usize
     match kind {
         RowKind::Cluster => {
             show_cluster(i, row);
-            rows::cluster_size(row)
+            cluster_size(row)
         }
         RowKind::Span => {
             show_span(row);
-            rows::span_size(row)
+            span_size(row)
         }
     }
 }
@@ -85,9 +107,9 @@ fn show_rows(kind: RowKind, chunk: &[u8], first: usize, count: usize) -> usize
 fn show_chunk_head(i: usize, chunk: &[u8]) {
     line::start(b"chunk");
     line::number(i as u64);
-    line::number(u16_at(chunk, rows::CLUSTER_COUNT_AT) as u64);
-    line::float(chunk, rows::PEN_X_AT);
-    line::float(chunk, rows::PEN_Y_AT);
+    line::number(u16_at(chunk, CLUSTER_COUNT_AT) as u64);
+    line::float(chunk, PEN_X_AT);
+    line::float(chunk, PEN_Y_AT);
     line::end();
 }
 
@@ -96,15 +118,15 @@ fn show_chunk(i: usize, chunk: &[u8]) -> usize
     ensures { λ r. ⌜ drop r (now (chunk .entry)) ≡ drop (chunkRowSizeOf (now (chunk .entry))) (now (chunk .entry)) ⌝ }
 {
     show_chunk_head(i, chunk);
-    let clusters = u16_at(chunk, rows::CLUSTER_COUNT_AT) as usize;
-    let spans = u8_at(chunk, rows::SPAN_COUNT_AT) as usize;
-    let first_span = show_rows(RowKind::Cluster, chunk, rows::CLUSTERS_AT, clusters);
+    let clusters = u16_at(chunk, CLUSTER_COUNT_AT) as usize;
+    let spans = u8_at(chunk, SPAN_COUNT_AT) as usize;
+    let first_span = show_rows(RowKind::Cluster, chunk, CHUNK_HEAD_BYTES, clusters);
     show_rows(RowKind::Span, chunk, first_span, spans)
 }
 
 pub fn show_answer(answer: &[u8]) {
-    let count = u8_at(answer, rows::CHUNK_COUNT_AT) as usize;
-    let mut at = rows::CHUNKS_AT;
+    let count = u8_at(answer, CHUNK_COUNT_AT) as usize;
+    let mut at = ANSWER_HEAD_BYTES;
     for i in 0..count {
         let size = show_chunk(i, from(answer, at));
         at = after(answer, at, size);

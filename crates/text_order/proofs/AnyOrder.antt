@@ -2,11 +2,10 @@
 use Prim.Native.Nat.{ℕ, suc, _<_}
 use mathlib.Core.Path.{_≡_, refl, sym, subst, _∙_}
 use mathlib.Core.Bool.{Bool, true, false, _||_}
-use mathlib.Core.List.{List, [], _∷_, _++_}
+use mathlib.Core.List.{List, [], _∷_}
 use native.Mathlib.Omega.{arith}
 use lib.ListN.{length, getD}
 use lib.Dec.{T}
-use Rattle.laws.proofs.All.{All}
 use Rattle.labels.specs.Lists.{any}
 use Rattle.labels.specs.Position.{Entry, entries, insert, logicalOrder}
 use Rattle.sorting.proofs.Cases.{in-order}

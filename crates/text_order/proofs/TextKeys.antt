@@ -1,17 +1,16 @@
 -- The text order by keys: the keys of `logicalOrder` are the sorted keys of the entries. Assumes nothing.
-use Prim.Native.Nat.{ℕ, zero, suc, _+_, _*_, _^_, _/_, _%_, _≤_, _<_}
-use mathlib.Core.Path.{_≡_, refl, sym, ap, ap₂, _∙_}
+use Prim.Native.Nat.{ℕ, zero, suc, _+_, _*_, _/_, _%_, _≤_, _<_}
+use mathlib.Core.Path.{_≡_, refl, sym, ap, _∙_}
 use mathlib.Core.List.{List, [], _∷_, map, foldl}
-use native.Mathlib.Nat.{lt-of-lt-of-le}
 use native.Mathlib.Omega.{arith}
 use lib.ListN.{length, getD, length-map}
-use Rattle.laws.proofs.All.{All, all-weaken}
+use Rattle.laws.proofs.All.{All}
 use Rattle.labels.specs.Position.{Entry, entries, insert, logicalOrder}
 use Rattle.sorting.specs.Sorted.{insertKey, sorted}
 use Rattle.text_order.specs.Keys.{keyOf, keysOf}
 use Rattle.sorting.proofs.Cases.{in-order}
 use Rattle.sorting.proofs.Insertion.{insert-past, insert-here, insert-keys, sorted-keys}
-use Rattle.text_order.proofs.Entries.{entry-past, entry-here, inserted, Earlier, earlier-next, entries-length, order-places}
+use Rattle.text_order.proofs.Entries.{entry-past, entry-here, inserted, Earlier, earlier-next, entries-length}
 
 -- ---- an entry and its key
 

@@ -1,5 +1,5 @@
 -- The entries of the text order as keys. Definitions only.
-use Prim.Native.Nat.{ℕ, _+_, _*_, _/_, _%_}
+use Prim.Native.Nat.{ℕ, _+_, _*_}
 use mathlib.Core.List.{List, map}
 use Rattle.labels.specs.Position.{Entry, entries}
 

@@ -1,12 +1,15 @@
 -- `answer::cluster::put_cluster_rows` meets its contract. Assumes nothing.
 use Prim.Native.Nat.{ℕ, _+_, _-_, _≤_}
-use mathlib.Core.Path.{refl, _∙_, ap}
-use mathlib.Core.List.{[]}
-use lib.ListN.{getD}
+use mathlib.Core.Path.{_≡_, _∙_, ap}
+use mathlib.Core.List.{map, flatMap}
 use native.Mathlib.Omega.{arith}
-use Rattle.job_rows.specs.Rows.{glyphsIn}
-use Rattle.clusters.specs.Clusters.{clusterOf, clustersOf}
-use Rattle.forming.proofs.Glyphs.{glyphs-length}
+use lib.ListN.{length}
+use Rattle.labels.specs.Answer.{clusterRowBytes}
+use Rattle.labels.specs.Layout.{clusterRow}
+use Rattle.job_rows.specs.Rows.{glyphsAt}
+use Rattle.decoration.specs.Runs.{allClusters}
+use Rattle.answer.specs.Clusters.{clustersSize}
+use Rattle.answer.proofs.GlyphsLeft.{glyphs-count}
 use Rattle.answer.proofs.ClusterRows.{ClustersLeft, length-rows, cluster-room, cluster-turn, clusters-done}
 use Rattle.answer.proofs.Puts.{put-start}
 use borrow.Author.Needs.{needs}
@@ -14,25 +17,27 @@ use Rattle.answer.proofs.cluster.put_cluster_rows.Statement.{statement}
 use Rattle.answer.proofs.cluster.put_cluster_rows.Tie as tie
 
 abbrev Inv-loop : tie.InvT-loop
-Inv-loop out₀ at mode s rows count floats words n here₀ i₀ out here i =
-    (i ≤ n) × (ClustersLeft mode (glyphsIn s rows count) floats words n out₀ at out here i)
+Inv-loop out₀ at mode s merged floats words here₀ i₀ out here i =
+    (i ≤ length words) × (ClustersLeft mode (glyphsAt s merged) floats words out₀ at out here i)
 
 abbrev μ-loop : tie.MeasureT-loop
-μ-loop out₀ at mode s rows count floats words n here₀ i₀ out here i = n - i
+μ-loop out₀ at mode s merged floats words here₀ i₀ out here i = length words - i
+
+-- how many bytes are to be put
+size : (start : tie.Start Inv-loop μ-loop) → let a = start .args in let cs = allClusters (a .floats .now) (a .words .now) in
+    length (flatMap clusterRowBytes (map (clusterRow (a .mode) (glyphsAt (a .s .now) (a .merged .now))) cs)) ≡ clustersSize (length (a .merged .now)) cs
+size start =
+    let a = start .args in
+    length-rows (a .mode) (glyphsAt (a .s .now) (a .merged .now)) (length (a .merged .now)) (glyphs-count (a .s .now) (a .merged .now)) (allClusters (a .floats .now) (a .words .now))
 
 loop-holds : tie.Need-loop-holds Inv-loop μ-loop
-loop-holds c =
-    let a = c .before .before .before .args in
-    let given = c .before .before .before .pre in
-    let gs = glyphsIn (a .s .now) (a .rows .now) (a .count) in
-    let size = length-rows (a .mode) gs (a .count) (glyphs-length (a .s .now) (a .rows .now) (a .count) (given .2)) (clustersOf (a .floats .now) (a .words .now) (a .n)) in
-    (omega arith, put-start (omega (arith, given .0)))
+loop-holds c = let start = c .before .before .before in (omega arith, put-start (omega (arith, start .pre .2, size start)))
 
 mul-put-cluster-row : tie.Need-mul-put-cluster-row Inv-loop μ-loop
 mul-put-cluster-row c = search needs
 
 shared-slice-element-put-cluster-row : tie.Need-shared-slice-element-put-cluster-row Inv-loop μ-loop
-shared-slice-element-put-cluster-row c = search needs
+shared-slice-element-put-cluster-row c = omega (arith, c .before .before .before .before .before .before .pre .0 .same)
 
 mul-put-cluster-row-2 : tie.Need-mul-put-cluster-row-2 Inv-loop μ-loop
 mul-put-cluster-row-2 c = search needs
@@ -45,11 +50,7 @@ put-cluster-row-requires c κs =
     let l = c .before .before .before .before .loop in
     let start = c .before .before .before .before .before .before .before .before in
     let a = start .args in
-    let given = start .pre in (
-      cluster-room (a .mode) (glyphsIn (a .s .now) (a .rows .now) (a .count)) (a .floats .now) (a .words .now) (a .n) (given .3) (given .4) (l .i) (l .inv .1) (clusterOf (getD (a .floats .now) (l .i) []) (getD (a .words .now) (l .i) [])) refl (omega arith),
-      given .2,
-      given .5,
-    )
+    (cluster-room (a .mode) (glyphsAt (a .s .now) (a .merged .now)) (a .floats .now) (a .words .now) (start .pre .0) (l .i) (l .inv .1) (omega arith), start .pre .1)
 
 add-i : tie.Need-add-i Inv-loop μ-loop
 add-i c = search needs
@@ -63,11 +64,7 @@ loop-again c =
     let l = c .before .before .before .before .before .before .before .loop in
     let start = c .before .before .before .before .before .before .before .before .before .before .before in
     let a = start .args in
-    let given = start .pre in
-    let d = clusterOf (getD (a .floats .now) (l .i) []) (getD (a .words .now) (l .i) []) in (
-      omega arith,
-      cluster-turn (a .mode) (glyphsIn (a .s .now) (a .rows .now) (a .count)) (a .floats .now) (a .words .now) (a .n) (given .3) (given .4) (l .i) (l .inv .1) d refl (omega arith) (put .ensures .0) (put .ensures .1),
-    )
+    (omega arith, cluster-turn (a .mode) (glyphsAt (a .s .now) (a .merged .now)) (a .floats .now) (a .words .now) (start .pre .0) (l .i) (l .inv .1) (omega arith) (put .ensures .0) (put .ensures .1))
 
 same-length : tie.Need-same-length Inv-loop μ-loop
 same-length c = search needs
@@ -75,12 +72,10 @@ same-length c = search needs
 returns : tie.Need-returns Inv-loop μ-loop
 returns c =
     let l = c .before .loop in
-    let a = c .before .before .before .before .before .args in
-    let given = c .before .before .before .before .before .pre in
-    let gs = glyphsIn (a .s .now) (a .rows .now) (a .count) in
-    let size = length-rows (a .mode) gs (a .count) (glyphs-length (a .s .now) (a .rows .now) (a .count) (given .2)) (clustersOf (a .floats .now) (a .words .now) (a .n)) in
-    let done = clusters-done (a .mode) gs (a .floats .now) (a .words .now) (a .n) (given .3) (given .4) (l .i) (l .inv .1) (omega arith) in
-    (done .0, done .1 ∙ ap (λ (k : ℕ). a .at + k) size)
+    let start = c .before .before .before .before .before in
+    let a = start .args in
+    let done = clusters-done (a .mode) (glyphsAt (a .s .now) (a .merged .now)) (a .floats .now) (a .words .now) (start .pre .0) (l .i) (l .inv .1) (omega arith) in
+    (done .0, done .1 ∙ ap (λ (k : ℕ). a .at + k) (size start))
 
 pub put-cluster-rows-spec : {M : Type 1} → statement M
 put-cluster-rows-spec =

@@ -1,8 +1,8 @@
 -- `answer::span::span_length` meets its contract. Assumes nothing.
 use mathlib.Core.Path.{refl, sym, _∙_}
 use native.Mathlib.Omega.{arith}
-use Rattle.clusters.specs.Clusters.{clustersOf}
-use Rattle.answer.proofs.SpanRows.{row-runs, one-sum, no-sum}
+use Rattle.decoration.specs.Runs.{allClusters}
+use Rattle.answer.proofs.SpanRows.{one-sum, no-sum, run-count}
 use borrow.Author.Needs.{needs}
 use Rattle.answer.proofs.span.span_length.Statement.{statement}
 use Rattle.answer.proofs.span.span_length.Tie as tie
@@ -13,8 +13,8 @@ has-row-requires c κs = search needs
 span-at-requires : tie.Need-span-at-requires
 span-at-requires c κs = search needs
 
-collect-decoration-spans-requires : tie.Need-collect-decoration-spans-requires
-collect-decoration-spans-requires c κs = search needs
+count-runs-requires : tie.Need-count-runs-requires
+count-runs-requires c κs = c .before .before .before .before .pre
 
 mul-result : tie.Need-mul-result
 mul-result c = search needs
@@ -22,32 +22,23 @@ mul-result c = search needs
 add-result : tie.Need-add-result
 add-result c = search needs
 
-same-length : tie.Need-same-length
-same-length c = search needs
-
-same-length-2 : tie.Need-same-length-2
-same-length-2 c = search needs
-
 returns : tie.Need-returns
 returns c =
-    let s = c .before .before .before .before .before .before .before .before .before .before .before .before .before in
-    let a = s .args in
-    let cs = clustersOf (a .floats .now) (a .words .now) (a .n) in
-    let got = c .before .before .before .before .collect-decoration-spans in
-    let here = sym (c .before .before .before .before .before .before .before .before .before .has-row .ensures) ∙ c .before .before .before .before .before .before .before .before .if1 .taken in (
-      omega (arith, got .ensures .0, s .pre .0),
+    let branch = c .before .before in
+    let start = branch .before .before .before in
+    let a = start .args in
+    let cs = allClusters (a .floats .now) (a .words .now) in
+    let here = sym (branch .before .has-row .ensures) ∙ branch .if1 .taken in (
+      omega (arith, c .count-runs .ensures .1),
       λ job origin k.
-          let runs = row-runs job origin cs k (a .s .now) (a .place) (got .last .1 .1 .1 .1 .0) (got .last .1 .1 .1 .1 .1 .0) (got .result) (c .before .before .before .before .before .before .before .span-at .ensures) (got .ensures) (s .pre .3) (got .kept .1 .1 .1 .1 .0) (s .pre .4) (got .kept .1 .1 .1 .1 .1 .0) in
-          rw (one-sum job origin cs k _ here) (omega (arith, runs .2)),
+          rw (one-sum job origin cs k _ here) (omega (arith, run-count job origin cs k (a .s .now) (a .place) (c .before .span-at .ensures), c .count-runs .ensures .0)),
     )
 
 returns-2 : tie.Need-returns-2
 returns-2 c =
-    let s = c .before .before .before .before .before in
-    let a = s .args in
-    let cs = clustersOf (a .floats .now) (a .words .now) (a .n) in
+    let a = c .before .before .before .args in
     let gone = sym (c .before .has-row .ensures) ∙ c .if1 .left in
-    (omega arith, λ job origin k. rw (no-sum job origin cs k _ gone) refl)
+    (omega arith, λ job origin k. rw (no-sum job origin (allClusters (a .floats .now) (a .words .now)) k _ gone) refl)
 
 pub span-length-spec : {M : Type 1} → statement M
 span-length-spec =
@@ -55,10 +46,8 @@ span-length-spec =
     (tie.spec
     has-row-requires
     span-at-requires
-    collect-decoration-spans-requires
+    count-runs-requires
     mul-result
     add-result
-    same-length
-    same-length-2
     returns
     returns-2)

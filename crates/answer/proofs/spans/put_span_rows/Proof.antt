@@ -1,14 +1,13 @@
 -- `answer::spans::put_span_rows` meets its contract. Assumes nothing.
-use Prim.Native.Nat.{_+_, _-_, _≤_, _<_}
-use mathlib.Core.Path.{_≡_, refl, _∙_}
-use mathlib.Core.List.{flatMap}
+use Prim.Native.Nat.{ℕ, _+_, _-_, _≤_, _<_}
+use mathlib.Core.Path.{_≡_}
+use mathlib.Core.List.{List, _++_, flatMap}
 use native.Mathlib.Omega.{arith}
 use lib.ListN.{length}
-use Rattle.labels.specs.Answer.{spanRowBytes}
+use Rattle.labels.specs.Answer.{SpanRow, spanRowBytes}
 use Rattle.labels.specs.Layout.{spanRows}
-use Rattle.job_rows.specs.Rows.{fontsIn, partsIn}
-use Rattle.clusters.specs.Clusters.{clustersOf}
-use Rattle.answer.specs.Spans.{jobWith}
+use Rattle.job_rows.specs.Rows.{partsIn, jobAt}
+use Rattle.decoration.specs.Runs.{allClusters}
 use Rattle.answer.proofs.Puts.{Putting, put-start, put-room, put-turn, put-done}
 use Rattle.answer.proofs.SpanRows.{length-rows, rowsFrom, rowsAt, bytes-turn, bytes-done}
 use borrow.Author.Needs.{needs}
@@ -16,46 +15,50 @@ use Rattle.answer.proofs.spans.put_span_rows.Statement.{statement}
 use Rattle.answer.proofs.spans.put_span_rows.Tie as tie
 
 abbrev Inv-loop : tie.InvT-loop
-Inv-loop out₀ at s mode fonts spans origin floats words n firsts₀ widths₀ here₀ i₀ out firsts widths here i =
-    let job = jobWith mode (fontsIn s fonts) in
-    let cs = clustersOf floats words n in
-    (length firsts ≡ length firsts₀) × (length widths ≡ length widths₀) × (i ≤ length spans)
-    × Putting out₀ at (flatMap spanRowBytes (spanRows job origin cs 0 (partsIn s spans))) out here (flatMap spanRowBytes (rowsFrom job origin cs s spans i))
+Inv-loop out₀ at s job spans origin floats words here₀ i₀ out here i =
+    let j = jobAt s job in
+    let cs = allClusters floats words in
+    (i ≤ length spans)
+    × Putting out₀ at (flatMap spanRowBytes (spanRows j origin cs 0 (partsIn s spans))) out here (flatMap spanRowBytes (rowsFrom j origin cs s spans i))
 
 abbrev μ-loop : tie.MeasureT-loop
-μ-loop out₀ at s mode fonts spans origin floats words n firsts₀ widths₀ here₀ i₀ out firsts widths here i =
-    length spans - i
+μ-loop out₀ at s job spans origin floats words here₀ i₀ out here i = length spans - i
+
+-- the rows from place i on, and those of the span there
+abbrev rowsLeft : (start : tie.Start Inv-loop μ-loop) → ℕ → List SpanRow
+rowsLeft start i =
+    let a = start .args in
+    rowsFrom (jobAt (a .s .now) (a .job)) (a .origin) (allClusters (a .floats .now) (a .words .now)) (a .s .now) (a .spans .now) i
+
+abbrev rowsHere : (start : tie.Start Inv-loop μ-loop) → ℕ → List SpanRow
+rowsHere start i =
+    let a = start .args in
+    rowsAt (jobAt (a .s .now) (a .job)) (a .origin) (allClusters (a .floats .now) (a .words .now)) (a .s .now) (a .spans .now) i
+
+next : (start : tie.Start Inv-loop μ-loop) (i : ℕ) → i < length (start .args .spans .now)
+    → flatMap spanRowBytes (rowsLeft start i) ≡ flatMap spanRowBytes (rowsHere start i) ++ flatMap spanRowBytes (rowsLeft start (i + 1))
+next start i h =
+    let a = start .args in
+    bytes-turn (jobAt (a .s .now) (a .job)) (a .origin) (allClusters (a .floats .now) (a .words .now)) (a .s .now) (a .spans .now) i h
 
 loop-holds : tie.Need-loop-holds Inv-loop μ-loop
-loop-holds c =
-    let s = c .before .before .before .before .before in
-    let a = s .args in
-    let job = jobWith (a .mode) (fontsIn (a .s .now) (a .fonts)) in
-    let cs = clustersOf (a .floats .now) (a .words .now) (a .n) in
-    (refl, refl, omega arith, put-start (omega (arith, s .pre .6, length-rows (spanRows job (a .origin) cs 0 (partsIn (a .s .now) (a .spans .now))))))
+loop-holds c = let start = c .before .before .before in (omega arith, put-start (omega (arith, start .pre .2, length-rows (rowsLeft start 0))))
 
-mul-place : tie.Need-mul-place Inv-loop μ-loop
-mul-place c = search needs
+mul-put-span : tie.Need-mul-put-span Inv-loop μ-loop
+mul-put-span c = search needs
 
-shared-slice-read-place : tie.Need-shared-slice-read-place Inv-loop μ-loop
-shared-slice-read-place c = search needs
+shared-slice-read-put-span : tie.Need-shared-slice-read-put-span Inv-loop μ-loop
+shared-slice-read-put-span c = search needs
 
 cast-put-span : tie.Need-cast-put-span Inv-loop μ-loop
 cast-put-span c = search needs
 
 put-span-requires : tie.Need-put-span-requires Inv-loop μ-loop
 put-span-requires c κs =
-    let s = c .before .before .before .before .before .before .before .before .before .before .before in
-    let a = s .args in
-    let job = jobWith (a .mode) (fontsIn (a .s .now) (a .fonts)) in
-    let cs = clustersOf (a .floats .now) (a .words .now) (a .n) in
-    let l = c .before .before .before .before .before .loop in
-    let here = flatMap spanRowBytes (rowsAt job (a .origin) cs (a .s .now) (a .spans .now) (l .i)) in
-    let rest = flatMap spanRowBytes (rowsFrom job (a .origin) cs (a .s .now) (a .spans .now) (l .i + 1)) in
-    let next = bytes-turn job (a .origin) cs (a .s .now) (a .spans .now) (l .i) (omega arith) in
-    let size = length-rows (rowsAt job (a .origin) cs (a .s .now) (a .spans .now) (l .i)) in
-    let room = put-room (l .inv .3) here rest next in
-    (s .pre .0, s .pre .1, s .pre .2, omega (arith, l .inv .0, s .pre .3), omega (arith, l .inv .1, s .pre .4), omega (arith, room, size))
+    let l = c .before .before .before .loop in
+    let start = c .before .before .before .before .before .before .before in
+    let room = put-room (l .inv .1) (flatMap spanRowBytes (rowsHere start (l .i))) (flatMap spanRowBytes (rowsLeft start (l .i + 1))) (next start (l .i) (omega arith)) in
+    (start .pre .0, omega (arith, room, length-rows (rowsHere start (l .i))))
 
 add-i : tie.Need-add-i Inv-loop μ-loop
 add-i c = search needs
@@ -65,41 +68,25 @@ loop-less c = search needs
 
 loop-again : tie.Need-loop-again Inv-loop μ-loop
 loop-again c =
-    let s = c .before .before .before .before .before .before .before .before .before .before .before .before .before .before .before .before .before .before in
-    let a = s .args in
-    let job = jobWith (a .mode) (fontsIn (a .s .now) (a .fonts)) in
-    let cs = clustersOf (a .floats .now) (a .words .now) (a .n) in
-    let l = c .before .before .before .before .before .before .before .before .before .before .before .before .loop in
-    let more : l .i < length (a .spans .now) = omega arith in
-    let here = flatMap spanRowBytes (rowsAt job (a .origin) cs (a .s .now) (a .spans .now) (l .i)) in
-    let rest = flatMap spanRowBytes (rowsFrom job (a .origin) cs (a .s .now) (a .spans .now) (l .i + 1)) in
-    let next = bytes-turn job (a .origin) cs (a .s .now) (a .spans .now) (l .i) more in
-    let size = length-rows (rowsAt job (a .origin) cs (a .s .now) (a .spans .now) (l .i)) in
-    let put = c .before .before .before .before .before .before .put-span in (
-      put .kept .1 .1 .1 .1 .1 .1 .1 .1 .1 .1 .1 .0 ∙ l .inv .0,
-      put .kept .1 .1 .1 .1 .1 .1 .1 .1 .1 .1 .1 .1 .0 ∙ l .inv .1,
+    let put = c .before .before .put-span .ensures in
+    let l = c .before .before .before .before .before .before .loop in
+    let start = c .before .before .before .before .before .before .before .before .before .before in
+    let more : l .i < length (start .args .spans .now) = omega arith in (
       omega (arith, more),
-      put-turn (l .inv .3) here rest next (put .ensures .1) (omega (arith, put .ensures .0, size)),
+      put-turn (l .inv .1) (flatMap spanRowBytes (rowsHere start (l .i))) (flatMap spanRowBytes (rowsLeft start (l .i + 1))) (next start (l .i) more)
+          (put .1) (omega (arith, put .0, length-rows (rowsHere start (l .i)))),
     )
 
 same-length : tie.Need-same-length Inv-loop μ-loop
 same-length c = search needs
 
-same-length-2 : tie.Need-same-length-2 Inv-loop μ-loop
-same-length-2 c = search needs
-
-same-length-3 : tie.Need-same-length-3 Inv-loop μ-loop
-same-length-3 c = search needs
-
 returns : tie.Need-returns Inv-loop μ-loop
 returns c =
-    let s = c .before .before .before .before .before .before .before in
-    let a = s .args in
-    let job = jobWith (a .mode) (fontsIn (a .s .now) (a .fonts)) in
-    let cs = clustersOf (a .floats .now) (a .words .now) (a .n) in
     let l = c .before .loop in
-    let all = put-done (l .inv .3) (bytes-done job (a .origin) cs (a .s .now) (a .spans .now) (l .i) (omega arith)) in
-    (omega (arith, all .1, length-rows (spanRows job (a .origin) cs 0 (partsIn (a .s .now) (a .spans .now)))), all .0)
+    let start = c .before .before .before .before .before in
+    let a = start .args in
+    let all = put-done (l .inv .1) (bytes-done (jobAt (a .s .now) (a .job)) (a .origin) (allClusters (a .floats .now) (a .words .now)) (a .s .now) (a .spans .now) (l .i) (omega arith)) in
+    (omega (arith, all .1, length-rows (rowsLeft start 0)), all .0)
 
 pub put-span-rows-spec : {M : Type 1} → statement M
 put-span-rows-spec =
@@ -108,14 +95,12 @@ put-span-rows-spec =
     Inv-loop
     μ-loop
     loop-holds
-    mul-place
-    shared-slice-read-place
+    mul-put-span
+    shared-slice-read-put-span
     cast-put-span
     put-span-requires
     add-i
     loop-less
     loop-again
     same-length
-    same-length-2
-    same-length-3
     returns)

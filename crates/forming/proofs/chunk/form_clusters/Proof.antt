@@ -11,7 +11,7 @@ use Rattle.labels.specs.Lists.{all}
 use Rattle.labels.specs.Group.{groups}
 use Rattle.labels.specs.Cluster.{formGlyphClusters}
 use Rattle.clusters.specs.Clusters.{indexesIn}
-use Rattle.job_rows.specs.Rows.{fontsIn, spansIn, glyphsIn}
+use Rattle.job_rows.specs.Rows.{fontsIn, spansIn, glyphsAt}
 use Rattle.forming.proofs.Glyphs.{widths-part}
 use Rattle.forming.proofs.Turns.{groupsFrom, Counted, Run, groups-start, groups-end, groups-kept, groups-passed, groups-room, groups-turn, groups-all, formed, formed-none, formed-all, formed-turn, indexes-none, indexes-turn}
 use borrow.Author.Needs.{needs}
@@ -19,40 +19,57 @@ use Rattle.forming.proofs.chunk.form_clusters.Statement.{statement}
 use Rattle.forming.proofs.chunk.form_clusters.Tie as tie
 
 abbrev Inv-loop : tie.InvT-loop
-Inv-loop s fonts spans rows count floats₀ words₀ n₀ i₀ floats words n i =
+Inv-loop s fonts spans merged floats₀ words₀ n₀ i₀ floats words n i =
     let form = formGlyphClusters (fontsIn s fonts) (spansIn s spans) in
-    (length floats ≡ length floats₀) × (length words ≡ length words₀) × (n ≤ i) × (i ≤ count)
-    × Counted s spans rows count n i
-    × (formed form floats words n (groupsFrom s spans rows count i) ≡ map form (groups (spansIn s spans) (glyphsIn s rows count)))
+    (length floats ≡ length floats₀) × (length words ≡ length words₀) × (n ≤ i) × (i ≤ length merged)
+    × Counted s spans merged n i
+    × (formed form floats words n (groupsFrom s spans merged i) ≡ map form (groups (spansIn s spans) (glyphsAt s merged)))
     × (all (λ (i : ℕ). ltb i 65536) (indexesIn words n) ≡ true)
 
 abbrev μ-loop : tie.MeasureT-loop
-μ-loop s fonts spans rows count floats₀ words₀ n₀ i₀ floats words n i = count - i
+μ-loop s fonts spans merged floats₀ words₀ n₀ i₀ floats words n i = length merged - i
+
+-- the call, seen from the loop's head
+abbrev call : tie.At-loop Inv-loop μ-loop → tie.Start Inv-loop μ-loop
+call at = at .before .before .before .before
+
+-- where a span is found that covers the run, seen from where the cluster is stored
+abbrev covered : tie.After-words Inv-loop μ-loop → tie.Then1 Inv-loop μ-loop
+covered stored = stored .before .before .before .before .before .before
 
 run-at : (c : tie.After-chunk-span-at Inv-loop μ-loop) →
     let ended = c .before .before in
     let at = ended .before .before in
-    let a = at .before .before .before .before .args in
-    Run (a .s .now) (a .spans .now) (a .rows .now) (a .count) (at .loop .i) (ended .run-end .result) (c .chunk-span-at .result)
+    let a = call at .args in
+    Run (a .s .now) (a .spans .now) (a .merged .now) (at .loop .i) (ended .run-end .result) (c .chunk-span-at .result)
 run-at c =
-    let ended = c .before .before in
     record {
-      fit = ended .before .before .before .before .before .before .pre .0;
-      ends = ended .run-end .ensures;
+      ends = c .before .before .run-end .ensures;
       span = rw (← c .before .index-in .ensures) (c .chunk-span-at .ensures);
     }
+
+-- the run that is covered has a row
+room-at : (c : tie.Then1 Inv-loop μ-loop) →
+    let l = c .before .before .before .before .before .loop in
+    (l .n < length (l .floats)) × (l .n < length (l .words))
+room-at c =
+    let at = c .before .before .before .before .before in
+    let l = at .loop in
+    let given = call at .pre in
+    let room = groups-room (run-at (c .before)) (c .if1 .taken) (l .n) (l .inv .4) in
+    (omega (arith, room, given .floatRows, l .inv .0), omega (arith, room, given .wordRows, l .inv .1))
 
 loop-holds : tie.Need-loop-holds Inv-loop μ-loop
 loop-holds c =
     let a = c .before .before .before .args in
     let form = formGlyphClusters (fontsIn (a .s .now) (a .fonts)) (spansIn (a .s .now) (a .spans .now)) in
-    let left = groupsFrom (a .s .now) (a .spans .now) (a .rows .now) (a .count) 0 in (
+    let all-left = groups-start (a .s .now) (a .spans .now) (a .merged .now) in (
       refl,
       refl,
       omega arith,
       omega arith,
-      omega (arith, ap length (groups-start (a .s .now) (a .spans .now) (a .rows .now) (a .count))),
-      formed-none form (a .floats .now) (a .words .now) left ∙ ap (map form) (groups-start (a .s .now) (a .spans .now) (a .rows .now) (a .count)),
+      omega (arith, ap length all-left),
+      formed-none form (a .floats .now) (a .words .now) (groupsFrom (a .s .now) (a .spans .now) (a .merged .now) 0) ∙ ap (map form) all-left,
       indexes-none _ (a .words .now),
     )
 
@@ -70,61 +87,47 @@ chunk-span-at-requires c κs = search needs
 
 form-glyph-clusters-requires : tie.Need-form-glyph-clusters-requires Inv-loop μ-loop
 form-glyph-clusters-requires c κs =
-    let covered = c .before .before .if1 .taken in
-    let ended = c .before .before .before .before .before in
-    let at = ended .before .before in
-    let start = at .before .before .before .before in
-    let a = start .args in
-    let given = start .pre in
-    let run = ended .run-end .ensures in
-    (run .1, omega arith, omega arith, omega arith, widths-part (a .s .now) (a .rows .now) (a .count) _ (run .2) (at .loop .i) (given .5))
+    let h = c .before .before .if1 .taken in
+    let run = c .before .before .before .before .before .run-end .ensures in
+    let at = c .before .before .before .before .before .before .before in
+    let a = call at .args in
+    let given = call at .pre in (
+      record { some = run .1; inside = run .2; widths = widths-part (a .s .now) (a .merged .now) _ (at .loop .i) (given .widths) },
+      omega (arith, run .2, given .fewGlyphs),
+      omega (arith, h, given .fewSpans),
+    )
 
 put-cluster-requires : tie.Need-put-cluster-requires Inv-loop μ-loop
-put-cluster-requires c κs =
-    let spanned = c .before .before .before .before in
-    let at = spanned .before .before .before .before in
-    let given = at .before .before .before .before .pre in
-    let l = at .loop in
-    let room = groups-room (run-at spanned) (c .before .before .before .if1 .taken) (l .n) (l .inv .4) in
-    (omega (arith, given .1, l .inv .0), omega (arith, given .2, l .inv .1))
+put-cluster-requires c κs = room-at (c .before .before .before)
 
 add-n : tie.Need-add-n Inv-loop μ-loop
 add-n c =
-    let in-loop = c .before .before .before .before .before .before .before .before .before .before in
-    let i = in-loop .loop-test .taken in
-    let l = in-loop .before .loop in
-    let given = in-loop .before .before .before .before .before .pre in
-    omega arith
+    let turn = covered c .before .before .before .before in
+    omega (arith, turn .loop-test .taken, turn .before .loop .inv .2, call (turn .before) .pre .fewGlyphs)
 
 loop-less : tie.Need-loop-less Inv-loop μ-loop
 loop-less c =
-    let ended = c .before .before .before .before .before .before .before .before .before in
+    let ended = covered c .before .before .before in
     omega (arith, ended .before .loop-test .taken, ended .run-end .ensures .1)
 
 loop-again : tie.Need-loop-again Inv-loop μ-loop
 loop-again c =
     let put = c .before .before .put-cluster .ensures in
-    let made = c .before .before .before in
-    let r = made .form-glyph-clusters in
-    let covered = made .before .before .before .if1 .taken in
-    let run = run-at (made .before .before .before .before) in
-    let ended = made .before .before .before .before .before .before in
-    let i = ended .before .loop-test .taken in
-    let at = ended .before .before in
-    let start = at .before .before .before .before in
-    let a = start .args in
-    let given = start .pre in
+    let r = c .before .before .before .form-glyph-clusters in
+    let h = covered c .if1 .taken in
+    let room = room-at (covered c) in
+    let run = run-at (covered c .before) in
+    let at = covered c .before .before .before .before .before in
+    let a = call at .args in
     let l = at .loop in
-    let form = formGlyphClusters (fontsIn (a .s .now) (a .fonts)) (spansIn (a .s .now) (a .spans .now)) in
-    let room = groups-room run covered (l .n) (l .inv .4) in
-    let q : l .n < length (l .words) = omega (arith, given .2, l .inv .1) in (
+    let form = formGlyphClusters (fontsIn (a .s .now) (a .fonts)) (spansIn (a .s .now) (a .spans .now)) in (
       rw (put .0, length-set (l .floats)) (l .inv .0),
       rw (put .1, length-set (l .words)) (l .inv .1),
-      omega arith,
+      omega (arith, l .inv .2, run .ends .1),
       run .ends .2,
-      groups-turn run covered (l .n) (l .inv .4),
-      formed-turn (l .floats) (l .words) (l .n) (r .result) (put .0) (put .1) q form (r .ensures .0) (groups-kept run covered) (omega (arith, given .1, l .inv .0)) ∙ l .inv .5,
-      indexes-turn (l .floats) (l .words) (l .n) (r .result) (put .0) (put .1) q _ (lt-ltb _ _ (r .ensures .1)) (l .inv .6),
+      groups-turn run h (l .n) (l .inv .4),
+      formed-turn (l .floats) (l .words) (l .n) (r .result) (put .0) (put .1) (room .1) form (r .ensures .0) (groups-kept run h) (room .0) ∙ l .inv .5,
+      indexes-turn (l .floats) (l .words) (l .n) (r .result) (put .0) (put .1) (room .1) _ (lt-ltb _ _ (r .ensures .1)) (l .inv .6),
     )
 
 loop-less-2 : tie.Need-loop-less-2 Inv-loop μ-loop
@@ -134,14 +137,20 @@ loop-less-2 c =
 
 loop-again-2 : tie.Need-loop-again-2 Inv-loop μ-loop
 loop-again-2 c =
-    let spanned = c .before in
-    let run = run-at spanned in
-    let at = spanned .before .before .before .before in
-    let a = at .before .before .before .before .args in
+    let run = run-at (c .before) in
+    let at = c .before .before .before .before .before in
+    let a = call at .args in
     let l = at .loop in
     let form = formGlyphClusters (fontsIn (a .s .now) (a .fonts)) (spansIn (a .s .now) (a .spans .now)) in
-    let next = groups-passed run (c .if1 .left) in
-    (l .inv .0, l .inv .1, omega arith, run .ends .2, rw next at (l .inv .4), ap (formed form (l .floats) (l .words) (l .n)) (sym next) ∙ l .inv .5, l .inv .6)
+    let next = groups-passed run (c .if1 .left) in (
+      l .inv .0,
+      l .inv .1,
+      omega (arith, l .inv .2, run .ends .1),
+      run .ends .2,
+      rw next at (l .inv .4),
+      ap (formed form (l .floats) (l .words) (l .n)) (sym next) ∙ l .inv .5,
+      l .inv .6,
+    )
 
 same-length : tie.Need-same-length Inv-loop μ-loop
 same-length c = search needs
@@ -152,11 +161,15 @@ same-length-2 c = search needs
 returns : tie.Need-returns Inv-loop μ-loop
 returns c =
     let l = c .before .loop in
-    let start = c .before .before .before .before .before in
-    let a = start .args in
+    let a = call (c .before) .args in
     let form = formGlyphClusters (fontsIn (a .s .now) (a .fonts)) (spansIn (a .s .now) (a .spans .now)) in
-    let none = groups-end (a .s .now) (a .spans .now) (a .rows .now) (a .count) (l .i) (start .pre .0) (omega arith) in
-    (sym (formed-all form (l .floats) (l .words) (l .n) none) ∙ l .inv .5, omega arith, groups-all (a .s .now) (a .spans .now) (a .rows .now) (a .count) (l .n) (l .i) (l .inv .4) none, l .inv .6)
+    let none = groups-end (a .s .now) (a .spans .now) (a .merged .now) (l .i) (c .loop-test .left) in
+    record {
+      clusters = sym (formed-all form (l .floats) (l .words) (l .n) none) ∙ l .inv .5;
+      few = omega (arith, l .inv .2, l .inv .3);
+      count = groups-all (a .s .now) (a .spans .now) (a .merged .now) (l .n) (l .i) (l .inv .4) none;
+      indexes = l .inv .6;
+    }
 
 pub form-clusters-spec : {M : Type 1} → statement M
 form-clusters-spec =

@@ -12,36 +12,37 @@ use Rattle.forming.proofs.few.few_clusters.Statement.{statement}
 use Rattle.forming.proofs.few.few_clusters.Tie as tie
 
 abbrev Inv-loop : tie.InvT-loop
-Inv-loop s spans rows count most n₀ i₀ n i =
-    (n ≤ most) × Counted s spans rows count n i
+Inv-loop s spans merged most n₀ i₀ n i =
+    (n ≤ most) × Counted s spans merged n i
 
 abbrev μ-loop : tie.MeasureT-loop
-μ-loop s spans rows count most n₀ i₀ n i = count - i
+μ-loop s spans merged most n₀ i₀ n i = length merged - i
+
+-- the call, seen from the loop's head
+abbrev call : tie.At-loop Inv-loop μ-loop → tie.Start Inv-loop μ-loop
+call at = at .before .before .before .before .before
 
 run-at : (c : tie.After-chunk-span-at Inv-loop μ-loop) →
     let ended = c .before .before in
     let at = ended .before .before in
-    let a = at .before .before .before .before .before .args in
-    Run (a .s .now) (a .spans .now) (a .rows .now) (a .count) (at .loop .i) (ended .run-end .result) (c .chunk-span-at .result)
+    let a = call at .args in
+    Run (a .s .now) (a .spans .now) (a .merged .now) (at .loop .i) (ended .run-end .result) (c .chunk-span-at .result)
 run-at c =
-    let ended = c .before .before in
     record {
-      fit = ended .before .before .before .before .before .before .before .pre;
-      ends = ended .run-end .ensures;
+      ends = c .before .before .run-end .ensures;
       span = rw (← c .before .index-in .ensures) (c .chunk-span-at .ensures);
     }
 
 returns : tie.Need-returns Inv-loop μ-loop
 returns c =
-    let start = c .before .before .before .before in
-    let a = start .args in
-    let few = few-clusters (a .s .now) (a .spans .now) (a .rows .now) (a .count) (start .pre) in
-    sym (le-leb (clustersIn (a .s .now) (a .spans .now) (a .rows .now) (a .count)) (a .most) (omega arith))
+    let a = c .before .before .before .before .args in
+    let few = few-clusters (a .s .now) (a .spans .now) (a .merged .now) in
+    sym (le-leb (clustersIn (a .s .now) (a .spans .now) (a .merged .now)) (a .most) (omega arith))
 
 loop-holds : tie.Need-loop-holds Inv-loop μ-loop
 loop-holds c =
     let a = c .before .before .before .before .args in
-    (omega arith, omega (arith, ap length (groups-start (a .s .now) (a .spans .now) (a .rows .now) (a .count))))
+    (omega arith, omega (arith, ap length (groups-start (a .s .now) (a .spans .now) (a .merged .now))))
 
 run-end-requires : tie.Need-run-end-requires Inv-loop μ-loop
 run-end-requires c κs = search needs
@@ -59,9 +60,9 @@ returns-2 : tie.Need-returns-2 Inv-loop μ-loop
 returns-2 c =
     let spanned = c .before .before in
     let at = spanned .before .before .before .before in
-    let a = at .before .before .before .before .before .args in
+    let a = call at .args in
     let more = groups-room (run-at spanned) (c .before .if2 .taken) (at .loop .n) (at .loop .inv .1) in
-    sym (lt-leb (clustersIn (a .s .now) (a .spans .now) (a .rows .now) (a .count)) (a .most) (omega arith))
+    sym (lt-leb (clustersIn (a .s .now) (a .spans .now) (a .merged .now)) (a .most) (omega arith))
 
 add-n : tie.Need-add-n Inv-loop μ-loop
 add-n c = search needs
@@ -87,12 +88,11 @@ loop-again-2 c =
 returns-3 : tie.Need-returns-3 Inv-loop μ-loop
 returns-3 c =
     let at = c .before in
-    let start = at .before .before .before .before .before in
-    let a = start .args in
+    let a = call at .args in
     let l = at .loop in
-    let none = groups-end (a .s .now) (a .spans .now) (a .rows .now) (a .count) (l .i) (start .pre) (omega arith) in
-    let all = groups-all (a .s .now) (a .spans .now) (a .rows .now) (a .count) (l .n) (l .i) (l .inv .1) none in
-    sym (le-leb (clustersIn (a .s .now) (a .spans .now) (a .rows .now) (a .count)) (a .most) (omega arith))
+    let none = groups-end (a .s .now) (a .spans .now) (a .merged .now) (l .i) (omega arith) in
+    let all = groups-all (a .s .now) (a .spans .now) (a .merged .now) (l .n) (l .i) (l .inv .1) none in
+    sym (le-leb (clustersIn (a .s .now) (a .spans .now) (a .merged .now)) (a .most) (omega arith))
 
 pub few-clusters-spec : {M : Type 1} → statement M
 few-clusters-spec =

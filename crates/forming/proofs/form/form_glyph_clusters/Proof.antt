@@ -9,6 +9,13 @@ use borrow.Author.Needs.{needs}
 use Rattle.forming.proofs.form.form_glyph_clusters.Statement.{statement}
 use Rattle.forming.proofs.form.form_glyph_clusters.Tie as tie
 
+-- where the first glyph is read, and the call, seen from there
+abbrev first : tie.After-struct-known2 → tie.After-glyph-at
+first c = c .before .before .before .before .before .before .before .before
+
+abbrev call : tie.After-glyph-at → tie.Start
+call at-first = at-first .before .before .before .before .before .before
+
 size-in-requires : tie.Need-size-in-requires
 size-in-requires c κs = search needs
 
@@ -24,20 +31,16 @@ font-in-requires c κs = search needs
 measure-units-requires : tie.Need-measure-units-requires
 measure-units-requires c κs =
     let at-first = c .before .before in
-    let start = at-first .before .before .before .before .before .before in
-    let a = start .args in
-    let h = start .pre in
+    let a = call at-first .args in
+    let h = call at-first .pre .0 in
     rw (toZ-ofZ (record { sfits = c .struct-told .given .1 .1 .1 .1 .1 .0 .1 }), at-first .glyph-at .ensures, at-first .before .place-in .ensures)
-    (leb-true _ _ (width-next (a .s .now) (a .rows .now) (a .end) (a .from) (h .0) (h .1) (h .4)))
+    (leb-true _ _ (width-next (a .s .now) (a .merged .now) (a .end) (a .from) (h .some) (h .inside) (h .widths)))
 
 glyph-advances-requires : tie.Need-glyph-advances-requires
 glyph-advances-requires c κs =
     let told = c .before in
-    let at-first = told .before .before in
-    let h = at-first .before .before .before .before .before .before .pre in (
-      h .0,
-      h .1,
-      h .4,
+    let at-first = told .before .before in (
+      call at-first .pre .0,
       rw (
         c .measure-units .ensures,
         toZ-ofZ (record { sfits = told .struct-told .given .1 .1 .1 .1 .1 .0 .1 }),
@@ -57,16 +60,16 @@ cast-t16 : tie.Need-cast-t16
 cast-t16 c = search needs
 
 cast-t18 : tie.Need-cast-t18
-cast-t18 c = let h = c .before .before .before .before .before .before .before .before .before .before .before .before .before .before .pre in omega arith
+cast-t18 c = let h = call (first c) .pre in omega arith
 
 cast-t19 : tie.Need-cast-t19
-cast-t19 c = let h = c .before .before .before .before .before .before .before .before .before .before .before .before .before .before .pre in omega arith
+cast-t19 c = let h = call (first c) .pre in omega arith
 
 sub-t15 : tie.Need-sub-t15
-sub-t15 c = let h = c .before .before .before .before .before .before .before .before .before .before .before .before .before .before .pre in omega arith
+sub-t15 c = let h = call (first c) .pre in omega arith
 
 cast-t20 : tie.Need-cast-t20
-cast-t20 c = let h = c .before .before .before .before .before .before .before .before .before .before .before .before .before .before .pre in omega arith
+cast-t20 c = let h = call (first c) .pre in omega arith
 
 returns : tie.Need-returns
 unfolding formGlyphClusters groupIn
@@ -75,10 +78,7 @@ returns c =
     let at-advances = at-ascent .before in
     let at-font = at-advances .before .before .before in
     let at-first = at-font .before in
-    let at-size = at-first .before .before in
-    let start = at-size .before .before .before .before in
-    let a = start .args in
-    let h = start .pre in (
+    let a = call at-first .args in (
       rw (
         c .before .before .descent .ensures,
         at-ascent .ascent .ensures,
@@ -87,8 +87,8 @@ returns c =
         at-font .font-in .ensures,
         at-first .glyph-at .ensures,
         at-first .before .place-in .ensures,
-        at-size .size-in .ensures,
-        part-length (a .s .now) (a .rows .now) (a .end) (a .from) (omega arith),
+        at-first .before .before .size-in .ensures,
+        part-length (a .s .now) (a .merged .now) (a .end) (a .from) (call at-first .pre .0 .inside),
       ),
       omega (arith, c .before .struct-known .given .1 .0 .fits),
     )

@@ -9,10 +9,10 @@ use Rattle.forming.proofs.form.glyph_advances.Statement.{statement}
 use Rattle.forming.proofs.form.glyph_advances.Tie as tie
 
 abbrev Inv-loop : tie.InvT-loop
-Inv-loop s fonts rows from end size first all₀ i₀ all i = Left s rows (fontsIn s fonts) size from end i (all .width) (all .advance)
+Inv-loop s fonts merged from end size first all₀ i₀ all i = Left s merged (fontsIn s fonts) size from end i (all .width) (all .advance)
 
 abbrev μ-loop : tie.MeasureT-loop
-μ-loop s fonts rows from end size first all₀ i₀ all i = end - i
+μ-loop s fonts merged from end size first all₀ i₀ all i = end - i
 
 with-glyph-requires : tie.Need-with-glyph-requires Inv-loop μ-loop
 with-glyph-requires c κs = search needs
@@ -25,8 +25,8 @@ loop-holds c =
     let start = c .before .before .before in
     let a = start .args in
     let given = start .pre in
-    let all = left-all (a .s .now) (a .rows .now) (fontsIn (a .s .now) (a .fonts)) (a .size) (a .from) (a .end) (given .1) (given .2) in
-    left-next all (given .0) (given .3) (c .with-glyph .ensures)
+    let all = left-all (a .s .now) (a .merged .now) (fontsIn (a .s .now) (a .fonts)) (a .size) (a .from) (a .end) (given .0) in
+    left-next all (given .0 .some) (given .1) (c .with-glyph .ensures)
 
 place-in-requires : tie.Need-place-in-requires Inv-loop μ-loop
 place-in-requires c κs = search needs
@@ -36,7 +36,7 @@ glyph-advance-requires c κs =
     let at = c .before .before in
     let a = at .before .before .before .before .args in
     let l = at .loop in
-    rw (c .place-in .ensures) (width-next (a .s .now) (a .rows .now) (a .end) (l .i) (omega arith) (l .inv .fit) (l .inv .widths))
+    rw (c .place-in .ensures) (width-next (a .s .now) (a .merged .now) (a .end) (l .i) (omega arith) (l .inv .fit) (l .inv .widths))
 
 with-glyph-requires-2 : tie.Need-with-glyph-requires-2 Inv-loop μ-loop
 with-glyph-requires-2 c κs = search needs

@@ -23,14 +23,14 @@ abbrev μ-loop : tie.MeasureT-loop
 loop-holds : tie.Need-loop-holds Inv-loop μ-loop
 loop-holds c = let a = c .before .before .args in (omega arith, find-start _ (spansIn (a .s .now) (a .spans .now)))
 
-mul-span-contains : tie.Need-mul-span-contains Inv-loop μ-loop
-mul-span-contains c = search needs
+mul-span-contains-at : tie.Need-mul-span-contains-at Inv-loop μ-loop
+mul-span-contains-at c = search needs
 
-shared-slice-read-span-contains : tie.Need-shared-slice-read-span-contains Inv-loop μ-loop
-shared-slice-read-span-contains c = search needs
+shared-slice-read-span-contains-at : tie.Need-shared-slice-read-span-contains-at Inv-loop μ-loop
+shared-slice-read-span-contains-at c = search needs
 
-span-contains-requires : tie.Need-span-contains-requires Inv-loop μ-loop
-span-contains-requires c κs = search needs
+span-contains-at-requires : tie.Need-span-contains-at-requires Inv-loop μ-loop
+span-contains-at-requires c κs = search needs
 
 returns : tie.Need-returns Inv-loop μ-loop
 returns c =
@@ -38,7 +38,7 @@ returns c =
     let a = at .before .before .before .args in
     let l = at .loop in
     let next = span-next (a .s .now) (a .spans .now) (l .k) (omega arith) in
-    sym (find-here _ (spansIn (a .s .now) (a .spans .now)) (l .k) next (sym (c .before .span-contains .ensures) ∙ c .if1 .taken)) ∙ l .inv .1
+    sym (find-here _ (spansIn (a .s .now) (a .spans .now)) (l .k) next (sym (c .before .span-contains-at .ensures) ∙ c .if1 .taken)) ∙ l .inv .1
 
 add-k : tie.Need-add-k Inv-loop μ-loop
 add-k c = search needs
@@ -53,7 +53,7 @@ loop-again c =
     let l = at .loop in
     let next = span-next (a .s .now) (a .spans .now) (l .k) (omega arith) in (
       omega arith,
-      find-on _ (spansIn (a .s .now) (a .spans .now)) (l .k) next (sym (c .before .span-contains .ensures) ∙ c .if1 .left) ∙ l .inv .1,
+      find-on _ (spansIn (a .s .now) (a .spans .now)) (l .k) next (sym (c .before .span-contains-at .ensures) ∙ c .if1 .left) ∙ l .inv .1,
     )
 
 returns-2 : tie.Need-returns-2 Inv-loop μ-loop
@@ -70,9 +70,9 @@ chunk-span-at-spec =
     Inv-loop
     μ-loop
     loop-holds
-    mul-span-contains
-    shared-slice-read-span-contains
-    span-contains-requires
+    mul-span-contains-at
+    shared-slice-read-span-contains-at
+    span-contains-at-requires
     returns
     add-k
     loop-less

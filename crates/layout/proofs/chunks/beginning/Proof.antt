@@ -2,12 +2,12 @@
 use mathlib.Core.Path.{refl}
 use mathlib.Core.List.{flatMap}
 use lib.Ieee.{ofBits}
-use Rattle.laid_chunk.specs.Steps.{reachedFrom, laidBytes}
+use Rattle.chunk.specs.Steps.{progressFrom, laidBytes}
 use Rattle.layout.proofs.chunks.beginning.Statement.{statement}
 use Rattle.layout.proofs.chunks.beginning.Tie as tie
 
 returns : tie.Need-returns
-unfolding ofBits reachedFrom laidBytes flatMap
+unfolding ofBits progressFrom laidBytes flatMap
 returns c = refl
 
 pub beginning-spec : {M : Type 1} → statement M

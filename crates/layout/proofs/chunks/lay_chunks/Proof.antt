@@ -1,18 +1,17 @@
 -- `layout::chunks::lay_chunks` meets its contract. Assumes nothing.
-use mathlib.Core.Path.{_≡_, refl, ap, _∙_}
+use mathlib.Core.Path.{refl, ap, _∙_}
 use native.Mathlib.Omega.{arith}
-use lib.ListN.{length}
 use Rattle.labels.specs.Decode.{chunkSize}
-use Rattle.layout.proofs.ChunksLeft.{Laying, begun-laying, chunk-checked, refused-laying, next-laying, laying-done}
+use Rattle.layout.proofs.ChunksLeft.{Laying, begun-laying, chunk-checked, refused-laying, after-laying, laying-done}
 use borrow.Author.Needs.{needs}
 use Rattle.layout.proofs.chunks.lay_chunks.Statement.{statement}
 use Rattle.layout.proofs.chunks.lay_chunks.Tie as tie
 
 abbrev Inv-loop : tie.InvT-loop
-Inv-loop s job out₀ room reached₀ at₀ left₀ out reached at left = (length out ≡ length out₀) × Laying s job room out₀ out reached at left
+Inv-loop s job out₀ before₀ at₀ left₀ out before at left = Laying s job out₀ out before at left
 
 abbrev μ-loop : tie.MeasureT-loop
-μ-loop s job out₀ room reached₀ at₀ left₀ out reached at left = left
+μ-loop s job out₀ before₀ at₀ left₀ out before at left = left
 
 beginning-requires : tie.Need-beginning-requires Inv-loop μ-loop
 beginning-requires c κs = search needs
@@ -21,20 +20,17 @@ add-at : tie.Need-add-at Inv-loop μ-loop
 add-at c = search needs
 
 count-of-requires : tie.Need-count-of-requires Inv-loop μ-loop
-count-of-requires c κs = c .before .before .before .before .pre .0 .places
+count-of-requires c κs = search needs
 
 loop-holds : tie.Need-loop-holds Inv-loop μ-loop
 loop-holds c =
     let start = c .before .before .before .before .before in
-    let begins = c .before .before .beginning in
-    (refl, begun-laying (start .args .s .now) (start .args .job) (start .pre .0) _ (c .count-of .result) refl (c .count-of .ensures .0) (begins .result) (begins .ensures) (start .args .room) (start .args .out .now) (start .pre .1))
+    begun-laying (start .pre) refl (c .count-of .ensures .0) (c .before .before .beginning .ensures) (start .args .out .now)
 
 layout-chunk-requires : tie.Need-layout-chunk-requires Inv-loop μ-loop
 layout-chunk-requires c κs =
-    let start = c .before .before .before .before .before .before .before .before in
     let l = c .before .before .loop in
-    let k = chunk-checked (start .args .s .now) (start .args .job) (l .reached) (l .at) (l .left) (omega arith) (l .inv .1 .known) (start .pre .0) in
-    (k .0, k .1, l .inv .1 .held)
+    chunk-checked _ _ (l .before) (l .at) (l .left) (omega arith) (l .inv .known) (c .before .before .before .before .before .before .before .before .pre)
 
 enum-known-next : tie.Need-enum-known-next Inv-loop μ-loop
 enum-known-next c = search needs
@@ -43,14 +39,13 @@ enum-known-number : tie.Need-enum-known-number Inv-loop μ-loop
 enum-known-number c = search needs
 
 same-length : tie.Need-same-length Inv-loop μ-loop
-same-length c = search needs
+same-length c = c .before .before .before .before .before .layout-chunk .kept .1 .1 .0 ∙ c .before .before .before .before .before .before .before .before .loop .inv .held
 
 returns : tie.Need-returns Inv-loop μ-loop
 returns c =
-    let a = c .before .before .before .before .before .before .before .before .before .before .before .before .before .before .args in
     let l = c .before .before .before .before .before .before .before .before .loop in
     let number = c .before .number .given in
-    let is = refused-laying (a .s .now) (a .job) (l .reached) (l .at) (l .left) (omega arith) (c .before .before .before .before .before .layout-chunk .ensures) (number .0 .0) (number .1) (l .inv .1) in
+    let is = refused-laying _ _ (l .before) (l .at) (l .left) (omega arith) (c .before .before .before .before .before .layout-chunk .ensures) (number .0 .0) (number .1) (l .inv) in
     (is .0, λ e. absurd (is .1 e))
 
 from-requires : tie.Need-from-requires Inv-loop μ-loop
@@ -70,24 +65,20 @@ loop-less c = search needs
 
 loop-again : tie.Need-loop-again Inv-loop μ-loop
 loop-again c =
-    let a = c .before .before .before .before .before .before .before .before .before .before .before .before .before .before .before .before .before .args in
     let l = c .before .before .before .before .before .before .before .before .before .before .before .loop in
     let laid = c .before .before .before .before .before .before .before .before .layout-chunk in
     let next = c .before .before .before .before .next .given in
     let k = c .before .chunk-size in
-    let size-is = k .ensures .0 ∙ ap chunkSize (c .before .before .from .ensures) in (
-      search needs,
-      next-laying (a .s .now) (a .job) (l .reached) (l .at) (l .left) (omega arith) (laid .ensures) (next .0 .0) (next .1) (k .result) (c .after .result) size-is (c .after .ensures) (laid .kept .1 .1 .1 .1 .0) (l .inv .1),
-    )
+    let size-is = k .ensures .0 ∙ ap chunkSize (c .before .before .from .ensures) in
+    after-laying _ _ (l .before) (l .at) (l .left) (omega arith) (laid .ensures) (next .0 .0) (next .1) (k .result) (c .after .result) size-is (c .after .ensures) (laid .kept .1 .1 .0) (l .inv)
 
 same-length-2 : tie.Need-same-length-2 Inv-loop μ-loop
-same-length-2 c = search needs
+same-length-2 c = c .before .loop .inv .held
 
 returns-2 : tie.Need-returns-2 Inv-loop μ-loop
 returns-2 c =
-    let a = c .before .before .before .before .before .before .before .args in
     let l = c .before .loop in
-    laying-done (a .s .now) (a .job) (l .reached) (l .at) (l .left) (c .loop-test .left) (l .inv .1)
+    laying-done _ _ (l .before) (l .at) (l .left) (c .loop-test .left) (l .inv)
 
 pub lay-chunks-spec : {M : Type 1} → statement M
 lay-chunks-spec =

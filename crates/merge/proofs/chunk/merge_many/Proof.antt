@@ -15,7 +15,7 @@ slice-aggregate-merge-glyphs c = search needs
 merge-glyphs-requires : tie.Need-merge-glyphs-requires
 merge-glyphs-requires c κs =
     let start = c .before .before .before .before .before .before .before .before .before in
-    (start .pre .0, start .pre .1, start .pre .2, start .pre .3, start .pre .4, start .pre .5, c .before .before .before .before .put-firsts .ensures)
+    (start .pre .0, start .pre .1, c .before .before .before .before .put-firsts .ensures)
 
 returns : tie.Need-returns
 returns c = c .before .merge-glyphs .ensures

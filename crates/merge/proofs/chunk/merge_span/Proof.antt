@@ -1,8 +1,11 @@
 -- `merge::chunk::merge_span` meets its contract: the span's own list, or its glyphs merged. Assumes nothing.
-use mathlib.Core.Path.{_∙_}
+use mathlib.Core.Path.{_≡_, refl, _∙_}
 use lib.ListN.{drop}
+use Rattle.labels.specs.Outcome.{given}
 use Rattle.labels.specs.Decode.{partsOf}
-use Rattle.merge.specs.Merged.{mergedOf}
+use Rattle.labels.specs.Merge.{mergeSpan}
+use Rattle.merge.specs.Merged.{glyphsIn, mergedOf, mergedInto}
+use Rattle.merge.specs.Steps.{OwnFew}
 use Rattle.merge.proofs.Marks.{below-more}
 use Rattle.merge.proofs.Spans.{own-few, own-span, span-first, span-more}
 use native.Mathlib.Omega.{arith}
@@ -16,20 +19,21 @@ glyph-rows-requires c κs = search needs
 list-span-requires : tie.Need-list-span-requires
 list-span-requires c κs =
     let start = c .before .before .before .before in
-    (start .pre .0, start .pre .1, omega (arith, start .pre .1, start .pre .2))
+    (start .pre .0, start .pre .1, omega (arith, start .pre .1, start .pre .2 .row-room))
 
 returns : tie.Need-returns
 unfolding mergedOf
 returns c =
     let start = c .before .before .before .before .before in
+    let begun = start .pre .2 in
     let a = start .args in
-    let parts = partsOf (drop (a .at) (a .s .now)) in (
-      c .list-span .ensures .0 ∙ start .pre .2,
-      start .pre .3,
-      below-more (a .stamp) (a .marks .now) (start .pre .4),
-      rw (c .list-span .ensures .1) (start .pre .1),
-      rw (span-first (a .s .now) parts (a .rows .now) (a .count) (omega arith), c .list-span .ensures .2),
-    )
+    let parts = partsOf (drop (a .at) (a .s .now)) in record {
+      row-room = c .list-span .ensures .0 ∙ begun .row-room;
+      mark-room = begun .mark-room;
+      below = below-more (a .stamp) (a .marks .now) (begun .earlier);
+      held = rw (c .list-span .ensures .1) (start .pre .1);
+      is = rw (span-first (a .s .now) parts (a .rows .now) (a .count) (omega arith), c .list-span .ensures .2);
+    }
 
 span-at-requires : tie.Need-span-at-requires
 span-at-requires c κs = search needs
@@ -40,58 +44,47 @@ array-borrow-prefix-none c = search needs
 slice-aggregate-merge-glyphs : tie.Need-slice-aggregate-merge-glyphs
 slice-aggregate-merge-glyphs c = search needs
 
+-- the span's own glyphs are few
+own-rows : (c : tie.After-glyph-rows) → OwnFew (c .glyph-rows .result)
+own-rows c =
+    let own = c .glyph-rows in
+    let start = c .before .before in
+    let a = start .args in
+    record { few = own-few (a .s .now) (partsOf (drop (a .at) (a .s .now))) (own .result .first) (own .result .count) (own .ensures .1) (start .pre .1); inside = own .ensures .0 }
+
+-- the span's merge is that of its glyphs into the list, which is not empty
+merged-span : (c : tie.After-span-at) → (let a = c .before .before .before .before .args in
+    let own = c .before .before .glyph-rows .result in
+    mergedInto (glyphsIn (a .s .now) (a .rows .now) (a .count)) (c .span-at .result) (a .s .now) (own .first) (own .count)
+    ≡ mergeSpan (given (glyphsIn (a .s .now) (a .rows .now) (a .count))) (partsOf (drop (a .at) (a .s .now))))
+merged-span c =
+    let some = c .before .if1 .left in
+    let own = c .before .before .glyph-rows in
+    let start = c .before .before .before .before in
+    let begun = start .pre .2 in
+    let a = start .args in
+    let bs = drop (a .at) (a .s .now) in
+    rw (span-more (a .s .now) (partsOf bs) (own .result .first) (own .result .count) (own .ensures .1) (a .rows .now) (a .count) (omega (arith, some)) (omega (arith, begun .row-room, begun .few)), ← own-span bs, ← c .span-at .ensures) refl
+
 merge-glyphs-requires : tie.Need-merge-glyphs-requires
 merge-glyphs-requires c κs =
-    let own = c .before .before .before .before .before .before .glyph-rows in
-    let start = c .before .before .before .before .before .before .before .before in
-    let a = start .args in (
-      start .pre .2,
-      start .pre .3,
-      start .pre .4,
-      start .pre .5,
-      own-few (a .s .now) (partsOf (drop (a .at) (a .s .now))) (own .result .first) (own .result .count) (own .ensures .1) (start .pre .1),
-      own .ensures .0,
-      λ b. omega arith,
-    )
+    let own = c .before .before .before .before .before .before .before in
+    (own .before .before .pre .2, own-rows own, λ b. omega arith)
 
 returns-2 : tie.Need-returns-2
 returns-2 c =
-    let own = c .before .before .before .before .before .before .before .before .glyph-rows in
-    let span = c .before .before .before .before .before .before .span-at in
-    let start = c .before .before .before .before .before .before .before .before .before .before in
-    let a = start .args in
-    let bs = drop (a .at) (a .s .now) in
-    let did = c .before .merge-glyphs .ensures in (
-      did .0,
-      did .1,
-      did .2,
-      did .3,
-      rw (span-more (a .s .now) (partsOf bs) (own .result .first) (own .result .count) (own .ensures .1) (a .rows .now) (a .count) (omega (arith, c .before .before .before .before .before .before .before .if1 .left)) (omega arith), ← own-span bs, ← span .ensures)
-          (did .4),
-    )
+    let at-span = c .before .before .before .before .before .before .before in
+    rw (merged-span at-span) at (c .before .merge-glyphs .ensures)
 
 merge-many-requires : tie.Need-merge-many-requires
 merge-many-requires c κs =
-    let own = c .before .before .before .before .before .glyph-rows in
-    let start = c .before .before .before .before .before .before .before in
-    let a = start .args in
-    (start .pre .2, start .pre .3, start .pre .4, start .pre .5, own-few (a .s .now) (partsOf (drop (a .at) (a .s .now))) (own .result .first) (own .result .count) (own .ensures .1) (start .pre .1), own .ensures .0)
+    let own = c .before .before .before .before .before .before in
+    (own .before .before .pre .2, own-rows own)
 
 returns-3 : tie.Need-returns-3
 returns-3 c =
-    let own = c .before .before .before .before .before .before .glyph-rows in
-    let span = c .before .before .before .before .span-at in
-    let start = c .before .before .before .before .before .before .before .before in
-    let a = start .args in
-    let bs = drop (a .at) (a .s .now) in
-    let did = c .merge-many .ensures in (
-      did .0,
-      did .1,
-      did .2,
-      did .3,
-      rw (span-more (a .s .now) (partsOf bs) (own .result .first) (own .result .count) (own .ensures .1) (a .rows .now) (a .count) (omega (arith, c .before .before .before .before .before .if1 .left)) (omega arith), ← own-span bs, ← span .ensures)
-          (did .4),
-    )
+    let at-span = c .before .before .before .before .before in
+    rw (merged-span at-span) at (c .merge-many .ensures)
 
 pub merge-span-spec : {M : Type 1} → statement M
 merge-span-spec =

@@ -53,7 +53,7 @@ merge-span-requires c κs =
     let start = loop .before .before .before in
     let a = start .args in
     let l = loop .loop in
-    (start .pre .0, few-here (a .s .now) (a .spans .now) (l .i) (omega arith) (l .inv .5), l .inv .0, l .inv .1, l .inv .2, l .inv .3)
+    (start .pre .0, few-here (a .s .now) (a .spans .now) (l .i) (omega arith) (l .inv .5), record { row-room = l .inv .0; mark-room = l .inv .1; earlier = l .inv .2; few = l .inv .3 })
 
 enum-known-n : tie.Need-enum-known-n Inv-loop μ-loop
 enum-known-n c = search needs
@@ -69,10 +69,10 @@ returns c =
     let a = loop .before .before .before .args in
     let l = loop .loop in
     let s = a .s .now in (
-      did .ensures .0,
-      tt,
+      did .ensures .row-room,
+      rw (c .before .k .given .1) at (did .ensures .held),
       spans-stop s (a .spans .now) (l .i) (given (glyphsIn s (l .rows) (l .count))) (mergeGlyphs (partsIn s (a .spans .now))) (l .inv .6) (c .before .k .given .0 .0) (omega arith)
-          (rw (c .before .k .given .1) at (did .ensures .4)),
+          (rw (c .before .k .given .1) at (did .ensures .is)),
     )
 
 add-i : tie.Need-add-i Inv-loop μ-loop
@@ -89,13 +89,13 @@ loop-again c =
     let a = loop .before .before .before .args in
     let l = loop .loop in
     let s = a .s .now in (
-      did .ensures .0,
-      did .ensures .1,
-      did .ensures .2,
-      rw (c .before .n .given .1) at (did .ensures .3),
+      did .ensures .row-room,
+      did .ensures .mark-room,
+      did .ensures .below,
+      rw (c .before .n .given .1) at (did .ensures .held),
       omega arith,
       few-on s (a .spans .now) (l .i) (omega arith) (l .inv .5),
-      spans-on s (a .spans .now) (l .i) (given (glyphsIn s (l .rows) (l .count))) (mergeGlyphs (partsIn s (a .spans .now))) (l .inv .6) _ (omega arith) (rw (c .before .n .given .1) at (did .ensures .4)),
+      spans-on s (a .spans .now) (l .i) (given (glyphsIn s (l .rows) (l .count))) (mergeGlyphs (partsIn s (a .spans .now))) (l .inv .6) _ (omega arith) (rw (c .before .n .given .1) at (did .ensures .is)),
     )
 
 returns-2 : tie.Need-returns-2 Inv-loop μ-loop

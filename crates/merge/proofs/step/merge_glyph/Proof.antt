@@ -1,5 +1,7 @@
 -- `merge::step::merge_glyph` meets its contract. Assumes nothing.
+use Prim.Native.Nat.{_≤_}
 use mathlib.Core.Path.{sym, _∙_}
+use lib.ListN.{length}
 use borrow.Author.Tests.{not-true, not-false}
 use Rattle.merge.proofs.Merges.{glyph-owed, glyph-free, outside}
 use native.Mathlib.Omega.{arith}
@@ -10,28 +12,35 @@ use Rattle.merge.proofs.step.merge_glyph.Tie as tie
 index-at-requires : tie.Need-index-at-requires
 index-at-requires c κs = search needs
 
+cast-span-contains : tie.Need-cast-span-contains
+cast-span-contains c = search needs
+
 span-contains-requires : tie.Need-span-contains-requires
 span-contains-requires c κs = search needs
 
 insert-next-requires : tie.Need-insert-next-requires
 insert-next-requires c κs =
-    let start = c .before .before .before .before .before .before .before in
-    (start .pre .0, start .pre .3, start .pre .2, c .before .if1 .taken)
+    let ready = c .before .before .before .before .before .before .before .pre in
+    (ready .row-room, ready .fits, c .before .if1 .taken)
+
+-- the list is within its rows
+held : (c : tie.Start) → c .args .at .count ≤ length (c .args .rows .now)
+held c = omega (arith, c .pre .row-room, c .pre .fits .few)
 
 returns : tie.Need-returns
 returns c =
     let start = c .before .before .before .before .before .before .before .before in
     let a = start .args in
-    let s = a .s .now in (
-      c .insert-next .ensures .0,
-      start .pre .1,
-      c .insert-next .ensures .1,
-      λ positions known. record {
+    let s = a .s .now in record {
+      row-room = c .insert-next .ensures .0;
+      mark-room = start .pre .mark-room;
+      within = c .insert-next .ensures .1;
+      stands = λ positions known. record {
         positions = positions;
         marked = known;
-        is = rw (glyph-owed s (a .rows .now) (a .at .count) (a .row) positions (omega arith) (a .span) (a .at .owed) (a .at .next) (omega arith)) (c .insert-next .ensures .2 s positions);
-      },
-    )
+        is = rw (glyph-owed s (a .rows .now) (a .at .count) (a .row) positions (held start) (a .span) (a .at .owed) (a .at .next) (omega arith)) (c .insert-next .ensures .2 s positions);
+      };
+    }
 
 skip-requires : tie.Need-skip-requires
 skip-requires c κs = search needs
@@ -42,21 +51,21 @@ returns-2 c =
     let index = c .before .before .before .before .before .index-at in
     let start = c .before .before .before .before .before .before .before .before in
     let a = start .args in
-    let s = a .s .now in (
-      start .pre .0,
-      start .pre .1,
-      c .skip .ensures .0,
-      λ positions known. record {
+    let s = a .s .now in record {
+      row-room = start .pre .row-room;
+      mark-room = start .pre .mark-room;
+      within = c .skip .ensures .0;
+      stands = λ positions known. record {
         positions = positions;
         marked = known;
         is =
             rw (
-              glyph-free s (a .rows .now) (a .at .count) (a .row) positions (omega arith) (a .span) (a .at .owed) (a .at .next) (omega arith),
-              outside s (a .rows .now) (a .at .count) (a .row) positions (omega arith) (a .span) (index .result) (index .ensures) (sym (covered .ensures) ∙ not-true (covered .result) (c .before .if2 .taken)),
+              glyph-free s (a .rows .now) (a .at .count) (a .row) positions (held start) (a .span) (a .at .owed) (a .at .next) (omega arith),
+              outside s (a .rows .now) (a .at .count) (a .row) positions (held start) (a .span) (index .result) (index .ensures) (sym (covered .ensures) ∙ not-true (covered .result) (c .before .if2 .taken)),
             )
             (c .skip .ensures .1 s (a .rows .now) positions);
-      },
-    )
+      };
+    }
 
 replace-first-requires : tie.Need-replace-first-requires
 replace-first-requires c κs = search needs
@@ -64,23 +73,26 @@ replace-first-requires c κs = search needs
 returns-3 : tie.Need-returns-3
 returns-3 c =
     let covered = c .before .before .before .before .before .before .span-contains in
+    let index = c .before .before .before .before .before .before .before .index-at in
     let start = c .before .before .before .before .before .before .before .before .before .before in
     let a = start .args in
     let s = a .s .now in
-    let did = c .replace-first .ensures in (
-      did .0,
-      did .1,
-      did .2,
-      λ positions known.
-          rw (glyph-free s (a .rows .now) (a .at .count) (a .row) positions (omega arith) (a .span) (a .at .owed) (a .at .next) (omega arith))
-          (did .3 (a .span) positions (sym (covered .ensures) ∙ not-false (covered .result) (c .before .before .before .if2 .left)) known),
-    )
+    let is-covered = sym (covered .ensures) ∙ not-false (covered .result) (c .before .before .before .if2 .left) in
+    let did = c .replace-first .ensures (a .span) (rw (← index .ensures) is-covered) in record {
+      row-room = did .row-room;
+      mark-room = did .mark-room;
+      within = did .within;
+      stands = λ positions known.
+          rw (glyph-free s (a .rows .now) (a .at .count) (a .row) positions (held start) (a .span) (a .at .owed) (a .at .next) (omega arith))
+          (did .stands positions known);
+    }
 
 pub merge-glyph-spec : {M : Type 1} → statement M
 merge-glyph-spec =
     tie.close
     (tie.spec
     index-at-requires
+    cast-span-contains
     span-contains-requires
     insert-next-requires
     returns

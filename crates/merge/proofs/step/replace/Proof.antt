@@ -1,5 +1,6 @@
 -- `merge::step::replace` meets its contract: one of three cases by the two cluster lengths. Assumes nothing.
 use native.Mathlib.Omega.{arith}
+use mathlib.Core.Path.{refl}
 use borrow.Author.Needs.{needs}
 use Rattle.merge.specs.Steps.{mergingOf}
 use Rattle.merge.proofs.Merges.{longer, shorter, as-long}
@@ -28,12 +29,13 @@ returns : tie.Need-returns
 returns c =
     let new = c .before .before .before .length-at2 in
     let old = c .before .before .before .before .length-at in
-    let a = c .before .before .before .before .before .before .before .args in
+    let start = c .before .before .before .before .before .before .before in
+    let a = start .args in
     let s = a .s .now in (
       c .replace-longer .ensures .0,
       c .replace-longer .ensures .1,
       λ positions.
-          rw (longer s (a .rows .now) (a .count) (a .row) positions (omega arith) (a .p) (new .result) (old .result) (new .ensures .0) (old .ensures .0) (omega arith) (omega arith))
+          rw (longer s (a .rows .now) (a .at .count) (a .row) positions (omega (arith, start .pre .row-room, start .pre .fits .few)) (a .p) (new .result) (old .result) (new .ensures .0) (old .ensures .0) (omega arith) (omega arith))
           (c .replace-longer .ensures .2 s positions (omega (arith, new .ensures .0))),
     )
 
@@ -52,12 +54,13 @@ returns-2 c =
     let put = c .before .replace-row in
     let new = c .before .before .before .before .length-at2 in
     let old = c .before .before .before .before .before .length-at in
-    let a = c .before .before .before .before .before .before .before .before .args in
+    let start = c .before .before .before .before .before .before .before .before in
+    let a = start .args in
     let s = a .s .now in (
       put .ensures .0,
-      (omega arith, omega arith),
+      (record { few = start .pre .fits .few; placed = omega arith }, refl),
       λ positions.
-          rw (shorter s (a .rows .now) (a .count) (a .row) positions (omega arith) (a .p) (new .result) (old .result) (new .ensures .0) (old .ensures .0) (omega arith) (omega arith), put .ensures .1 s),
+          rw (shorter s (a .rows .now) (a .at .count) (a .row) positions (omega (arith, start .pre .row-room, start .pre .fits .few)) (a .p) (new .result) (old .result) (new .ensures .0) (old .ensures .0) (omega arith) (omega arith), put .ensures .1 s),
     )
 
 returns-3 : tie.Need-returns-3
@@ -66,12 +69,13 @@ returns-3 c =
     let put = c .before .replace-row in
     let new = c .before .before .before .before .length-at2 in
     let old = c .before .before .before .before .before .length-at in
-    let a = c .before .before .before .before .before .before .before .before .args in
+    let start = c .before .before .before .before .before .before .before .before in
+    let a = start .args in
     let s = a .s .now in (
       put .ensures .0,
-      (omega arith, omega arith),
+      (record { few = start .pre .fits .few; placed = omega arith }, refl),
       λ positions.
-          rw (as-long s (a .rows .now) (a .count) (a .row) positions (omega arith) (a .p) (new .result) (old .result) (new .ensures .0) (old .ensures .0) (omega arith) (omega arith) (omega arith), put .ensures .1 s),
+          rw (as-long s (a .rows .now) (a .at .count) (a .row) positions (omega (arith, start .pre .row-room, start .pre .fits .few)) (a .p) (new .result) (old .result) (new .ensures .0) (old .ensures .0) (omega arith) (omega arith) (omega arith), put .ensures .1 s),
     )
 
 pub replace-spec : {M : Type 1} → statement M

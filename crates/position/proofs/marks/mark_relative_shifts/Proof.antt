@@ -1,5 +1,5 @@
 -- `position::marks::mark_relative_shifts` meets its contract. The loop's invariant: the byte indexes are what they were, and the
--- clusters, once the rows from i on are marked, are those of the definition. Assumes nothing.
+-- clusters, once the rows from i on are marked, are those of the definition, for every job of this list. Assumes nothing.
 use Prim.Native.Nat.{ℕ, _≤_, _<_, _-_}
 use native.Mathlib.Omega.{arith}
 use mathlib.Core.Path.{_≡_, refl, sym, ap, _∙_}
@@ -10,6 +10,7 @@ use Rattle.labels.specs.Job.{Job}
 use Rattle.labels.specs.Decode.{listOf}
 use Rattle.labels.specs.Cluster.{marked, markRelativeShifts}
 use Rattle.clusters.specs.Clusters.{Cluster, clustersOf, indexesIn}
+use Rattle.job_rows.specs.Rows.{jobAt}
 use Rattle.clusters.proofs.Turns.{stored, stage-turn, stage-done}
 use Rattle.position.specs.Given.{Numbered}
 use Rattle.position.proofs.Marking.{last, indexes-set, mark-start, angle-at}
@@ -17,32 +18,55 @@ use Rattle.position.proofs.marks.mark_relative_shifts.Statement.{statem
 use Rattle.position.proofs.marks.mark_relative_shifts.Tie as tie
 
 abbrev Inv-loop : tie.InvT-loop
-Inv-loop rotate numbers floats₀ words₀ n before₀ i₀ floats words before i =
+Inv-loop s numbers floats₀ words₀ n rotate before₀ i₀ floats words before i =
     (length floats ≡ length floats₀) × (length words ≡ length words₀) × (i ≤ n) × (indexesIn words n ≡ indexesIn words₀ n)
     × ((job : Job) (text : List ℕ) (offset : ℕ) → job .rotate ≡ listOf rotate → Numbered text offset numbers words₀ n
     → stored (last job text offset) (marked job text offset) before floats words n i ≡ markRelativeShifts job text offset (clustersOf floats₀ words₀ n))
 
 abbrev μ-loop : tie.MeasureT-loop
-μ-loop rotate numbers floats₀ words₀ n before₀ i₀ floats words before i = n - i
+μ-loop s numbers floats₀ words₀ n rotate before₀ i₀ floats words before i = n - i
+
+-- the call, seen from the loop's head
+abbrev call : tie.At-loop Inv-loop μ-loop → tie.Start Inv-loop μ-loop
+call at = at .before .before .before .before .before .before .before
+
+-- the rows are still as many as they were
+rows-at : (at : tie.At-loop Inv-loop μ-loop) → let n = call at .args .n in (n ≤ length (at .loop .floats)) × (n ≤ length (at .loop .words))
+rows-at at =
+    let given = call at .pre in
+    (omega (arith, at .loop .inv .0, given .0 .rows), omega (arith, at .loop .inv .1, given .1))
+
+from-requires : tie.Need-from-requires Inv-loop μ-loop
+from-requires c κs = search needs
 
 cluster-at-requires : tie.Need-cluster-at-requires Inv-loop μ-loop
-cluster-at-requires c κs = search needs
+cluster-at-requires c κs =
+    let given = c .before .before .before .before .before .pre in
+    (omega (arith, given .0 .some, given .0 .rows), omega (arith, given .0 .some, given .1))
 
 loop-holds : tie.Need-loop-holds Inv-loop μ-loop
 loop-holds c =
-    let a = c .before .before .before .before .before .args in (
+    let start = c .before .before .before .before .before .before in
+    let a = start .args in
+    let given = start .pre in (
       refl,
       refl,
       omega arith,
       refl,
-      λ job text offset er en. mark-start job text offset (a .floats .now) (a .words .now) (a .n) (c .cluster-at .result) (c .cluster-at .ensures) (omega arith) (omega arith) (omega arith),
+      λ job text offset er en.
+          mark-start job text offset (a .floats .now) (a .words .now) (a .n) (c .cluster-at .result) (c .cluster-at .ensures) (given .0 .some) (given .0 .rows) (given .1),
     )
 
 cluster-at-requires-2 : tie.Need-cluster-at-requires-2 Inv-loop μ-loop
-cluster-at-requires-2 c κs = search needs
+cluster-at-requires-2 c κs =
+    let turn = c .before .before in
+    let rows = rows-at (turn .before) in
+    (omega (arith, turn .loop-test .taken, rows .0), omega (arith, turn .loop-test .taken, rows .1))
 
 number-at-requires : tie.Need-number-at-requires Inv-loop μ-loop
-number-at-requires c κs = search needs
+number-at-requires c κs =
+    let turn = c .before .before .before in
+    omega (arith, turn .loop-test .taken, call (turn .before) .pre .0 .numbered)
 
 float-in-requires : tie.Need-float-in-requires Inv-loop μ-loop
 float-in-requires c κs = search needs
@@ -52,15 +76,14 @@ mark-requires c κs = search needs
 
 put-cluster-requires : tie.Need-put-cluster-requires Inv-loop μ-loop
 put-cluster-requires c κs =
-    let test = c .before .before .before .before .before .before .before .before in
-    let l = test .before .loop in
-    let start = test .before .before .before .before .before .before .before in
-    (omega (arith, test .loop-test .taken, l .inv .0, start .pre .1), omega (arith, test .loop-test .taken, l .inv .1, start .pre .2))
+    let turn = c .before .before .before .before .before .before .before .before in
+    let rows = rows-at (turn .before) in
+    (omega (arith, turn .loop-test .taken, rows .0), omega (arith, turn .loop-test .taken, rows .1))
 
 add-i : tie.Need-add-i Inv-loop μ-loop
 add-i c =
-    let test = c .before .before .before .before .before .before .before .before .before .before .before in
-    omega (arith, test .loop-test .taken, test .before .before .before .before .before .before .before .fits .n .fits)
+    let turn = c .before .before .before .before .before .before .before .before .before .before .before in
+    omega (arith, turn .loop-test .taken, call (turn .before) .fits .n .fits)
 
 loop-less : tie.Need-loop-less Inv-loop μ-loop
 loop-less c = search needs
@@ -72,29 +95,27 @@ loop-again c =
     let angle = made .before .before .before in
     let number = angle .before in
     let read = number .before in
-    let test = read .before .before .before in
-    let l = test .before .loop in
-    let start = test .before .before .before .before .before .before .before in
-    let a = start .args in
+    let turn = read .before .before .before in
+    let l = turn .before .loop in
+    let a = call (turn .before) .args in
     let at = read .cluster-at2 in
-    let h : l .i < a .n = test .loop-test .taken in
-    let p : a .n ≤ length (l .floats) = omega (arith, l .inv .0, start .pre .1) in
-    let q : a .n ≤ length (l .words) = omega (arith, l .inv .1, start .pre .2) in
+    let h : l .i < a .n = turn .loop-test .taken in
+    let rows = rows-at (turn .before) in
     let stored = put .put-cluster .ensures in
     let index = ap (λ (c : Cluster). c .index) (at .ensures) in (
       ap length (stored .0) ∙ length-set (l .floats) _ _ ∙ l .inv .0,
       ap length (stored .1) ∙ length-set (l .words) _ _ ∙ l .inv .1,
       omega (arith, h),
       ap (λ (w : List (List ℕ)). indexesIn w (a .n)) (stored .1)
-          ∙ indexes-set (l .words) (a .n) (l .i) h q _ (made .mark .ensures .0 ∙ index)
+          ∙ indexes-set (l .words) (a .n) (l .i) h (rows .1) _ (made .mark .ensures .0 ∙ index)
           ∙ l .inv .3,
       λ job text offset er en.
           stage-turn (last job text offset) (marked job text offset) (l .before) (at .result) (l .floats) (l .words) (a .n) (l .i) (at .result) (made .mark .result)
           (at .ensures)
           (made .mark .ensures .1 job text offset
-          (angle-at job text offset (listOf (a .rotate .now)) (a .numbers .now) (a .words .now) (l .words) (a .n) (l .i) (number .number-at .result) (angle .float-in .result) (at .result .index)
-          er en (l .inv .3) h q (number .number-at .ensures) (angle .float-in .ensures) index))
-          refl (stored .0) (stored .1) h p q
+          (angle-at job text offset _ (a .numbers .now) (a .words .now) (l .words) (a .n) (l .i) (number .number-at .result) (angle .float-in .result) (at .result .index)
+          er en (l .inv .3) h (rows .1) (number .number-at .ensures) (angle .float-in .ensures) index))
+          refl (stored .0) (stored .1) h (rows .0) (rows .1)
           ∙ l .inv .4 job text offset er en,
     )
 
@@ -106,13 +127,15 @@ same-length-2 c = search needs
 
 returns : tie.Need-returns Inv-loop μ-loop
 returns c =
-    let l = c .before .loop in
-    let start = c .before .before .before .before .before .before .before in
-    let a = start .args in (
+    let at = c .before in
+    let l = at .loop in
+    let a = call at .args in
+    let rows = rows-at at in
+    let job = jobAt (a .s .now) (a .job) in (
       l .inv .3,
-      λ job text offset er en.
-          sym (stage-done (last job text offset) (marked job text offset) (l .before) (l .floats) (l .words) (a .n) (l .i) (c .loop-test .left) (omega arith) (omega arith))
-          ∙ l .inv .4 job text offset er en,
+      λ text offset en.
+          sym (stage-done (last job text offset) (marked job text offset) (l .before) (l .floats) (l .words) (a .n) (l .i) (c .loop-test .left) (rows .0) (rows .1))
+          ∙ l .inv .4 job text offset (sym (ap listOf (at .before .before .before .before .from .ensures))) en,
     )
 
 pub mark-relative-shifts-spec : {M : Type 1} → statement M
@@ -121,6 +144,7 @@ mark-relative-shifts-spec =
     (tie.spec
     Inv-loop
     μ-loop
+    from-requires
     cluster-at-requires
     loop-holds
     cluster-at-requires-2

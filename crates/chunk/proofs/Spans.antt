@@ -1,0 +1,54 @@
+-- The spans of a checked chunk: they are few, they begin within the record, and the places counted from there are theirs. Assumes nothing.
+use Prim.Native.Nat.{ℕ, _+_, _≤_}
+use mathlib.Core.Path.{_≡_, sym, ap, _∙_}
+use mathlib.Core.List.{List, _++_}
+use native.Mathlib.Nat.{add-assoc}
+use native.Mathlib.Omega.{arith}
+use lib.ListN.{length, take, drop, length-append, length-take, length-drop}
+use lib.Seq.{drop-drop, take-at}
+use lib.Dec.{leb→le}
+use Rattle.laws.proofs.All.{all-every, first, rest}
+use Rattle.labels.specs.Job.{limits}
+use Rattle.labels.specs.Bytes.{rows}
+use Rattle.labels.specs.Decode.{spanSize, partsOf, spansAt, spanCount, spanBytes, chunkFits, chunkOf}
+use Rattle.job_rows.specs.Rows.{partsIn}
+use Rattle.chunk.specs.declared.progress.NextChunk.{NextChunk}
+use Rattle.chunk.specs.Checked.{CheckedChunk, SpannedChunk}
+
+-- the first n places of a list are lent
+pub lent-length : {n : ℕ} (places : List ℕ) → n ≤ length places → n ≡ length (take n places)
+lent-length places few = rw length-take (omega arith)
+
+-- and given back, all overwritten
+module _ {n : ℕ} (places own : List ℕ) (few : n ≤ length places) (same : length own ≡ length (take n places)) where
+  own-length : length own ≡ n
+  own-length = same ∙ sym (lent-length places few)
+
+  pub own-back : take n (own ++ drop n places) ≡ own
+  own-back = take-at own (drop n places) n own-length
+
+  pub back-held : n ≤ length (own ++ drop n places)
+  back-held = rw length-append (let whole = own-length in omega arith)
+
+  pub back-length : n ≡ length (take n (own ++ drop n places))
+  back-length = sym (ap length own-back ∙ own-length)
+
+module _ {s : List ℕ} {next : NextChunk} (k : CheckedChunk s next) {chunk : List ℕ} (here : chunk ≡ drop (next .at) s) where
+  pub few-spans : {n : ℕ} → n ≡ spanCount chunk → n ≤ limits .spans
+  unfolding chunkFits
+  few-spans e = rw (e, here) (leb→le _ _ (first (rest (all-every _ (k .fits)))))
+
+  pub first-within : {m : ℕ} → m ≡ spansAt chunk → next .at + m + 1 ≤ length s
+  unfolding chunkFits
+  first-within e =
+      let ends : spansAt (drop (next .at) s) + 1 ≤ length (drop (next .at) s) = leb→le _ _ (first (rest (rest (all-every _ (k .fits))))) in
+      rw (e, here) (omega (arith, rw length-drop at ends, k .begins))
+
+  -- as many places as there are spans, counted from the first
+  pub places-of : (places : List ℕ) {m n held : ℕ} → m ≡ spansAt chunk → n ≡ spanCount chunk → n ≡ held → length places ≡ held
+      → partsIn s places ≡ rows spanSize partsOf held (drop (next .at + m + 1) s) → SpannedChunk s next places
+  unfolding chunkOf spanBytes
+  places-of places m-is n-is same l e =
+      let began : drop (next .at + spansAt (drop (next .at) s) + 1) s ≡ spanBytes (drop (next .at) s) =
+      ap (λ (i : ℕ). drop i s) (add-assoc (next .at) (spansAt (drop (next .at) s)) 1) ∙ sym (drop-drop (spansAt (drop (next .at) s) + 1) (next .at) s) in
+      record { checked = k; few = rw (l, sym same) (few-spans n-is); parts = e ∙ rw (sym same, m-is, n-is, here) (ap (rows spanSize partsOf (spanCount (drop (next .at) s))) began) }

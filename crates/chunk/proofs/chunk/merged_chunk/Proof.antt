@@ -1,0 +1,126 @@
+-- `chunk::chunk::merged_chunk` meets its contract. Assumes nothing.
+use Prim.Native.Nat.{ℕ, _≤_}
+use mathlib.Core.Path.{refl}
+use mathlib.Core.List.{List}
+use native.Mathlib.Omega.{arith}
+use lib.ListN.{length, take, length-replicate}
+use borrow.Author.Tests.{leb-true}
+use Rattle.forming.proofs.FewClusters.{few-clusters}
+use Rattle.chunk.specs.Checked.{MergedChunk}
+use Rattle.chunk.proofs.Spans.{lent-length}
+use Rattle.chunk.proofs.Merging.{few-glyphs, list-merged, refused-laid, merged-laid}
+use borrow.Author.Needs.{needs}
+use Rattle.chunk.proofs.chunk.merged_chunk.Statement.{statement}
+use Rattle.chunk.proofs.chunk.merged_chunk.Tie as tie
+
+abbrev start : tie.After-process-chunk → tie.Start
+start c = c .before .before .before .before .before
+
+abbrev given : tie.After-few-clusters → tie.After-n
+given c = c .before .before .before .before .before .before
+
+abbrev many : tie.After-few-clusters2 → tie.After-few-clusters
+many c = c .before .before
+
+process-chunk-requires : tie.Need-process-chunk-requires
+process-chunk-requires c κs =
+    let p = c .before .before .before .before .pre in
+    (omega (arith, p .checked .size), omega (arith, p .few), few-glyphs p, length-replicate {A = ℕ} 1024 0)
+
+enum-known-n : tie.Need-enum-known-n
+enum-known-n c = search needs
+
+enum-known-number : tie.Need-enum-known-number
+enum-known-number c = search needs
+
+returns : tie.Need-returns
+returns c =
+    let merge = c .before .before .before in
+    refused-laid (start merge .pre) _ (c .before .number .given .1) (merge .process-chunk .ensures .2) refl
+
+-- ---- the merge gave glyphs
+
+module _ (c : tie.After-n) where
+  abbrev a : tie.Start
+  a = start (c .before .before)
+
+  abbrev rows : List ℕ
+  rows = c .before .before .process-chunk .last .1 .1 .0
+
+  abbrev glyphs : List ℕ
+  glyphs = take (c .n .given .0 .0) rows
+
+  merged : MergedChunk (a .args .s .now) (a .args .next) (a .args .spans .now) glyphs
+  merged = list-merged (a .pre) rows (c .n .given .1) (c .before .before .process-chunk .ensures)
+
+  held : c .n .given .0 .0 ≤ length rows
+  held = let merge = c .before .before .process-chunk .ensures in omega (arith, merge .0, rw (c .n .given .1) at (merge .1))
+
+slice-aggregate-glyphs : tie.Need-slice-aggregate-glyphs
+slice-aggregate-glyphs c = let merge = c .before .before .before .before .before in lent-length (rows merge) (held merge)
+
+few-clusters-requires : tie.Need-few-clusters-requires
+few-clusters-requires c κs = search needs
+
+chunk-of-32-requires : tie.Need-chunk-of-32-requires
+chunk-of-32-requires c κs =
+    let test = c .before .before in
+    (leb-true _ 32 (rw (← test .few-clusters .ensures) (c .before .if1 .taken)), merged (given test))
+
+same-length : tie.Need-same-length
+same-length c = search needs
+
+returns-2 : tie.Need-returns-2
+returns-2 c =
+    let call = c .before .before in
+    merged-laid (merged (given (call .before .before .before))) (call .chunk-of-32 .ensures)
+
+few-clusters-requires-2 : tie.Need-few-clusters-requires-2
+few-clusters-requires-2 c κs = search needs
+
+chunk-of-256-requires : tie.Need-chunk-of-256-requires
+chunk-of-256-requires c κs =
+    let test = c .before .before in
+    (leb-true _ 256 (rw (← test .few-clusters2 .ensures) (c .before .if2 .taken)), merged (given (many test)))
+
+same-length-2 : tie.Need-same-length-2
+same-length-2 c = search needs
+
+returns-3 : tie.Need-returns-3
+returns-3 c =
+    let call = c .before .before in
+    merged-laid (merged (given (many (call .before .before .before)))) (call .chunk-of-256 .ensures)
+
+chunk-of-1024-requires : tie.Need-chunk-of-1024-requires
+chunk-of-1024-requires c κs =
+    let merge = given (many (c .before .before)) in
+    (omega (arith, few-clusters (a merge .args .s .now) (a merge .args .spans .now) (glyphs merge), merged merge .few), merged merge)
+
+same-length-3 : tie.Need-same-length-3
+same-length-3 c = search needs
+
+returns-4 : tie.Need-returns-4
+returns-4 c =
+    let call = c .before .before in
+    merged-laid (merged (given (many (call .before .before .before)))) (call .chunk-of-1024 .ensures)
+
+pub merged-chunk-spec : {M : Type 1} → statement M
+merged-chunk-spec =
+    tie.close
+    (tie.spec
+    process-chunk-requires
+    enum-known-n
+    enum-known-number
+    returns
+    slice-aggregate-glyphs
+    few-clusters-requires
+    chunk-of-32-requires
+    same-length
+    returns-2
+    few-clusters-requires-2
+    chunk-of-256-requires
+    same-length-2
+    returns-3
+    chunk-of-1024-requires
+    same-length-3
+    returns-4)

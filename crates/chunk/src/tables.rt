@@ -1,0 +1,93 @@
+// The tables of a chunk's clusters. A short label is the usual one: the tables are chosen by how many clusters the merged glyphs make, so that few
+// rows are cleared. There can be fewer clusters than glyphs: a letter and its accents are one cluster, and glyphs that no span covers make none.
+use crate::progress::Laid;
+use crate::progress::NextChunk;
+use crate::steps::layout_merged;
+ghost use Prim.Native.Nat.{_≤_};
+ghost use Rattle.forming.specs.Groups.{clustersIn};
+ghost use Rattle.chunk.specs.Steps.{ChunkLaid, mergedLaid};
+ghost use Rattle.chunk.specs.Checked.{MergedChunk};
+
+// For at most 32 clusters.
+pub fn chunk_of_32(
+    s: &[u8],
+    next: NextChunk,
+    spans: &[usize],
+    merged: &[u32],
+    out: &mut [u8],
+) -> Laid
+    requires { ⌜ (clustersIn (now s) (now spans) (now merged) ≤ 32) × MergedChunk (now s) next (now spans) (now merged) ⌝ }
+    ensures { λ r. ⌜ ChunkLaid (next .before) r (now (out .entry)) (now (out .exit)) (mergedLaid (now (s .entry)) next (now (merged .entry))) ⌝ }
+{
+    let mut floats = [[0.0; 10]; 32];
+    let mut words = [[0; 6]; 32];
+    let mut order = [0; 32];
+    let mut spare = [0; 32];
+    layout_merged(
+        s,
+        next,
+        spans,
+        merged,
+        &mut floats,
+        &mut words,
+        &mut order,
+        &mut spare,
+        out,
+    )
+}
+
+// For at most 256 clusters.
+pub fn chunk_of_256(
+    s: &[u8],
+    next: NextChunk,
+    spans: &[usize],
+    merged: &[u32],
+    out: &mut [u8],
+) -> Laid
+    requires { ⌜ (clustersIn (now s) (now spans) (now merged) ≤ 256) × MergedChunk (now s) next (now spans) (now merged) ⌝ }
+    ensures { λ r. ⌜ ChunkLaid (next .before) r (now (out .entry)) (now (out .exit)) (mergedLaid (now (s .entry)) next (now (merged .entry))) ⌝ }
+{
+    let mut floats = [[0.0; 10]; 256];
+    let mut words = [[0; 6]; 256];
+    let mut order = [0; 256];
+    let mut spare = [0; 256];
+    layout_merged(
+        s,
+        next,
+        spans,
+        merged,
+        &mut floats,
+        &mut words,
+        &mut order,
+        &mut spare,
+        out,
+    )
+}
+
+// For at most 1,024 clusters.
+pub fn chunk_of_1024(
+    s: &[u8],
+    next: NextChunk,
+    spans: &[usize],
+    merged: &[u32],
+    out: &mut [u8],
+) -> Laid
+    requires { ⌜ (clustersIn (now s) (now spans) (now merged) ≤ 1_024) × MergedChunk (now s) next (now spans) (now merged) ⌝ }
+    ensures { λ r. ⌜ ChunkLaid (next .before) r (now (out .entry)) (now (out .exit)) (mergedLaid (now (s .entry)) next (now (merged .entry))) ⌝ }
+{
+    let mut floats = [[0.0; 10]; 1024];
+    let mut words = [[0; 6]; 1024];
+    let mut order = [0; 1024];
+    let mut spare = [0; 1024];
+    layout_merged(
+        s,
+        next,
+        spans,
+        merged,
+        &mut floats,
+        &mut words,
+        &mut order,
+        &mut spare,
+        out,
+    )
+}
