@@ -1,9 +1,14 @@
-// The rows of several chunks. Nothing may be written into the answer before it is known that no chunk is refused and that the whole answer fits. So
-// they are laid out aside, and their rows are copied. Short labels are the usual ones: only an answer that is longer than the buffer aside is laid out
-// a second time, straight into its place. So no memory grows with the chunks.
+// The rows of a job's chunks. Nothing may be written into the answer before it is known that no chunk is refused and that the whole answer fits. A
+// single chunk keeps to that by itself, and is put at once. Several are laid out aside, and their rows are copied. Short labels are the usual ones:
+// only an answer that is longer than the buffer aside is laid out a second time, straight into its place. So no memory grows with the chunks.
+use crate::chunks::beginning;
+use crate::chunks::count_of;
 use crate::chunks::lay_chunks;
 use answer_format::ANSWER_HEAD_BYTES;
+use chunk::chunk::layout_chunk;
 use chunk::progress::Laid;
+use chunk::progress::NextChunk;
+use job_rows::sizes::CHUNK_COUNT_BYTES;
 use labels::Job;
 ghost use mathlib.Core.Path.{_≡_};
 ghost use Prim.Native.Nat.{_+_, _≤_};
@@ -27,10 +32,15 @@ fn put_bytes(out: &mut [u8], at: usize, bytes: &[u8])
     }
 }
 
-pub fn put_several(s: &[u8], job: Job, answer: &mut [u8]) -> Laid
+pub fn put_chunks(s: &[u8], job: Job, answer: &mut [u8]) -> Laid
     requires { ⌜ CheckedJob (now s) job ⌝ }
     ensures { λ r. ⌜ RowsPut (jobLaid (now (s .entry)) job) r (now (answer .entry)) (now (answer .exit)) ⌝ }
 {
+    if count_of(s, job) == 1 {
+        let at = job.chunks + CHUNK_COUNT_BYTES;
+        let before = beginning();
+        return layout_chunk(s, NextChunk { job, at, before }, answer);
+    }
     let mut aside = [0; ASIDE];
     match lay_chunks(s, job, &mut aside) {
         Laid::Refused(number) => Laid::Refused(number),

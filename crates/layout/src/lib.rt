@@ -3,15 +3,11 @@ mod aside;
 mod chunks;
 
 use answer::head::put_answer_head;
-use aside::put_several;
-use chunk::chunk::layout_chunk;
+use aside::put_chunks;
 use chunk::progress::Laid;
-use chunk::progress::NextChunk;
-use chunks::beginning;
 use chunks::count_of;
 use job::check::Checked;
 use job::check::check;
-use job_rows::sizes::CHUNK_COUNT_BYTES;
 ghost use Rattle.layout.specs.Called.{numberOf, lengthOf, LaidOut};
 
 // The answer's whole length, or the number that the job is refused with.
@@ -24,31 +20,20 @@ pub enum Answered {
 pub const TOO_LONG: u8 = 10;
 
 // The whole call. What it promises, of any bytes and any buffer, is in specs/Called: the number, the length, the buffer's bytes, how
-// much to lend, and demand 3. A single chunk is put at once, if it fits; the answer's head comes last.
+// much to lend, and demand 3. The answer's head comes last.
 pub fn layout_text(job: &[u8], answer: &mut [u8]) -> Answered
     ensures { λ r. ⌜ LaidOut (now (job .entry)) (now (answer .entry)) (numberOf r) (lengthOf r) (now (answer .exit)) ⌝ }
 {
     match check(job) {
         Checked::Refused(number) => Answered::Refused(number),
         Checked::Accepted(places) => {
-            let count = count_of(job, places);
-            let laid = if count == 1 {
-                let at = places.chunks + CHUNK_COUNT_BYTES;
-                let next = NextChunk {
-                    job: places,
-                    at,
-                    before: beginning(),
-                };
-                layout_chunk(job, next, answer)
-            } else {
-                put_several(job, places, answer)
-            };
-            match laid {
+            match put_chunks(job, places, answer) {
                 Laid::Refused(number) => Answered::Refused(number),
                 Laid::Going(end) => {
                     if answer.len() < end.length {
                         return Answered::Refused(TOO_LONG);
                     }
+                    let count = count_of(job, places);
                     put_answer_head(answer, end.length, count as u8);
                     Answered::Written(end.length)
                 }

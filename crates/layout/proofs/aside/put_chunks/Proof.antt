@@ -1,4 +1,4 @@
--- `layout::aside::put_several` meets its contract. Assumes nothing.
+-- `layout::aside::put_chunks` meets its contract. Assumes nothing.
 use Prim.Native.Nat.{ℕ}
 use mathlib.Core.Path.{_≡_, sym, _∙_}
 use mathlib.Core.List.{List}
@@ -11,20 +11,58 @@ use Rattle.chunk.specs.declared.progress.Progress as chunk
 use Rattle.chunk.specs.declared.progress.Laid.the-variants.{Going}
 use Rattle.chunk.specs.Steps.{progressFrom, laidFrom}
 use Rattle.layout.specs.Steps.{jobLaid}
+use Rattle.layout.proofs.Single.{single-checked, single-laid}
 use Rattle.layout.proofs.Outcomes.{refused-of, given-of}
 use Rattle.layout.proofs.Copied.{answerLength, end-length, refused-unput, longer-unput, fits-of, rows-copied}
 use borrow.Author.Needs.{needs}
-use Rattle.layout.proofs.aside.put_several.Statement.{statement}
-use Rattle.layout.proofs.aside.put_several.Tie as tie
+use Rattle.layout.proofs.aside.put_chunks.Statement.{statement}
+use Rattle.layout.proofs.aside.put_chunks.Tie as tie
 
-abbrev start : tie.After-lay-chunks → tie.Start
-start c = c .before .before .before .before
+abbrev start : tie.After-count-of → tie.Start
+start c = c .before .before .before
+
+-- ---- a single chunk
+
+abbrev single : tie.After-beginning → tie.Then1
+single c = c .before .before
+
+count-of-requires : tie.Need-count-of-requires
+count-of-requires c κs = search needs
+
+add-at : tie.Need-add-at
+add-at c = let given = start (c .before .before) .pre in omega (arith, given .begins, given .size)
+
+beginning-requires : tie.Need-beginning-requires
+beginning-requires c κs = search needs
+
+layout-chunk-requires : tie.Need-layout-chunk-requires
+layout-chunk-requires c κs =
+    let one = single (c .before) in
+    single-checked (start (one .before) .pre) (sym (one .before .count-of .ensures .0) ∙ one .if1 .taken) (c .before .beginning .ensures)
+
+same-length : tie.Need-same-length
+same-length c = search needs
+
+returns : tie.Need-returns
+returns c =
+    let put = c .before .before in
+    let begun = put .before .before in
+    let one = single begun in
+    single-laid (start (one .before) .pre) (sym (one .before .count-of .ensures .0) ∙ one .if1 .taken) (begun .beginning .ensures) (put .layout-chunk .ensures)
+
+-- ---- several: they are laid out aside
+
+abbrev counted : tie.After-lay-chunks → tie.After-count-of
+counted c = c .before .before .before
+
+abbrev whole : tie.After-lay-chunks → Outcome Progress
+whole c = jobLaid (start (counted c) .args .s .now) (start (counted c) .args .job)
+
+abbrev old : tie.After-lay-chunks → List ℕ
+old c = start (counted c) .args .answer .now
 
 abbrev laid : tie.After-end → tie.After-lay-chunks
 laid c = c .before .before .before
-
-abbrev whole : tie.After-lay-chunks → Outcome Progress
-whole c = jobLaid (start c .args .s .now) (start c .args .job)
 
 -- ---- no chunk is refused
 
@@ -53,27 +91,26 @@ enum-known-number c = search needs
 enum-known-end : tie.Need-enum-known-end
 enum-known-end c = search needs
 
-returns : tie.Need-returns
-returns c =
+returns-2 : tie.Need-returns-2
+returns-2 c =
     let behind = c .before .before in
-    let old = start (laid behind) .args .answer .now in
     record {
       laid = going behind;
-      buffer = sym (longer-unput (whole (laid behind)) (is behind .0) (is behind .1) old (omega (arith, long behind, c .if1 .taken)));
+      buffer = sym (longer-unput (whole (laid behind)) (is behind .0) (is behind .1) (old (laid behind)) (omega (arith, long behind, c .if2 .taken)));
     }
 
 lay-chunks-requires-2 : tie.Need-lay-chunks-requires-2
 lay-chunks-requires-2 c κs = search needs
 
-same-length : tie.Need-same-length
-same-length c = search needs
+same-length-2 : tie.Need-same-length-2
+same-length-2 c = search needs
 
-returns-2 : tie.Need-returns-2
-returns-2 c =
+returns-3 : tie.Need-returns-3
+returns-3 c =
     let room = c .before .before .before .before .before in
     let behind = room .before .before in
     let again = c .before .before .lay-chunks2 .ensures in
-    let fits = fits-of (whole (laid behind)) (is behind .0) (is behind .1) (length (start (laid behind) .args .answer .now)) (omega (arith, long behind, room .if1 .left)) in
+    let fits = fits-of (whole (laid behind)) (is behind .0) (is behind .1) (length (old (laid behind))) (omega (arith, long behind, room .if2 .left)) in
     record { laid = again .0; buffer = again .1 fits }
 
 sub-put-bytes : tie.Need-sub-put-bytes
@@ -88,49 +125,54 @@ part-put-bytes-end c = search needs
 put-bytes-requires : tie.Need-put-bytes-requires
 put-bytes-requires c κs =
     let room = c .before .before .before .before in
-    simp (length-take, length-drop) (omega (arith, long (room .before .before), room .if1 .left))
-
-returns-3 : tie.Need-returns-3
-returns-3 c =
-    let lay = c .before .before .before .before in
-    let told = c .before .number .given in
-    let refused = sym (told .1) ∙ lay .lay-chunks .ensures .0 in
-    record { laid = refused; buffer = sym (refused-unput (whole lay) (start lay .args .answer .now) (told .0 .0) (refused-of answerHeadSize (whole lay) (told .0 .0) refused)) }
-
-same-length-2 : tie.Need-same-length-2
-same-length-2 c = search needs
+    simp (length-take, length-drop) (omega (arith, long (room .before .before), room .if2 .left))
 
 returns-4 : tie.Need-returns-4
 returns-4 c =
+    let lay = c .before .before .before .before in
+    let told = c .before .number .given in
+    let refused = sym (told .1) ∙ lay .lay-chunks .ensures .0 in
+    record { laid = refused; buffer = sym (refused-unput (whole lay) (old lay) (told .0 .0) (refused-of answerHeadSize (whole lay) (told .0 .0) refused)) }
+
+same-length-3 : tie.Need-same-length-3
+same-length-3 c = search needs
+
+returns-5 : tie.Need-returns-5
+returns-5 c =
     let inside = c .before .before .before .before .before .before in
     let room = inside .before in
     let behind = room .before .before in
     let lay = laid behind in
     let blank : List ℕ = replicate 16_384 0 in
-    let old = start lay .args .answer .now in
-    let fits = fits-of (whole lay) (is behind .0) (is behind .1) (length blank) (omega (arith, long behind, inside .if2 .left)) in
+    let fits = fits-of (whole lay) (is behind .0) (is behind .1) (length blank) (omega (arith, long behind, inside .if3 .left)) in
     record {
       laid = going behind;
-      buffer = rows-copied (whole lay) (is behind .0) (is behind .1) (end behind .length) blank old (long behind) (omega (arith, inside .if2 .left)) (omega (arith, room .if1 .left))
+      buffer = rows-copied (whole lay) (is behind .0) (is behind .1) (end behind .length) blank (old lay) (long behind) (omega (arith, inside .if3 .left)) (omega (arith, room .if2 .left))
           (lay .lay-chunks .ensures .1 fits) (c .before .before .put-bytes .ensures);
     }
 
-pub put-several-spec : {M : Type 1} → statement M
-put-several-spec =
+pub put-chunks-spec : {M : Type 1} → statement M
+put-chunks-spec =
     tie.close
     (tie.spec
+    count-of-requires
+    add-at
+    beginning-requires
+    layout-chunk-requires
+    same-length
+    returns
     slice-aggregate-lay-chunks
     lay-chunks-requires
     enum-known-number
     enum-known-end
-    returns
-    lay-chunks-requires-2
-    same-length
     returns-2
+    lay-chunks-requires-2
+    same-length-2
+    returns-3
     sub-put-bytes
     part-put-bytes-start
     part-put-bytes-end
     put-bytes-requires
-    returns-3
-    same-length-2
-    returns-4)
+    returns-4
+    same-length-3
+    returns-5)
