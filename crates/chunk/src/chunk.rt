@@ -2,6 +2,7 @@
 use crate::progress::Laid;
 use crate::progress::NextChunk;
 use crate::tables::chunk_of_32;
+use crate::tables::chunk_of_64;
 use crate::tables::chunk_of_256;
 use crate::tables::chunk_of_1024;
 use forming::few::few_clusters;
@@ -37,8 +38,8 @@ fn merged_chunk(s: &[u8], next: NextChunk, spans: &[usize], out: &mut [u8]) -> L
     let count = merged.count;
     let rows: &[u32] = &merged.rows;
     let glyphs = &rows[..count];
-    if few_clusters(s, spans, glyphs, 32) {
-        return chunk_of_32(s, next, spans, glyphs, out);
+    if few_clusters(s, spans, glyphs, 64) {
+        return chunk_of_64(s, next, spans, glyphs, out);
     }
     if few_clusters(s, spans, glyphs, 256) {
         return chunk_of_256(s, next, spans, glyphs, out);

@@ -36,6 +36,34 @@ pub fn chunk_of_32(
     )
 }
 
+// For at most 64 clusters.
+pub fn chunk_of_64(
+    s: &[u8],
+    next: NextChunk,
+    spans: &[usize],
+    merged: &[u32],
+    out: &mut [u8],
+) -> Laid
+    requires { ⌜ (clustersIn (now s) (now spans) (now merged) ≤ 64) × MergedChunk (now s) next (now spans) (now merged) ⌝ }
+    ensures { λ r. ⌜ ChunkLaid (next .before) r (now (out .entry)) (now (out .exit)) (mergedLaid (now (s .entry)) next (now (merged .entry))) ⌝ }
+{
+    let mut floats = [[0.0; 10]; 64];
+    let mut words = [[0; 6]; 64];
+    let mut order = [0; 64];
+    let mut spare = [0; 64];
+    layout_merged(
+        s,
+        next,
+        spans,
+        merged,
+        &mut floats,
+        &mut words,
+        &mut order,
+        &mut spare,
+        out,
+    )
+}
+
 // For at most 256 clusters.
 pub fn chunk_of_256(
     s: &[u8],

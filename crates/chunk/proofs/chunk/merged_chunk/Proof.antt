@@ -62,10 +62,10 @@ slice-aggregate-glyphs c = let merge = c .before .before .before .before .before
 few-clusters-requires : tie.Need-few-clusters-requires
 few-clusters-requires c κs = search needs
 
-chunk-of-32-requires : tie.Need-chunk-of-32-requires
-chunk-of-32-requires c κs =
+chunk-of-64-requires : tie.Need-chunk-of-64-requires
+chunk-of-64-requires c κs =
     let test = c .before .before in
-    (leb-true _ 32 (rw (← test .few-clusters .ensures) (c .before .if1 .taken)), merged (given test))
+    (leb-true _ 64 (rw (← test .few-clusters .ensures) (c .before .if1 .taken)), merged (given test))
 
 same-length : tie.Need-same-length
 same-length c = search needs
@@ -73,7 +73,7 @@ same-length c = search needs
 returns-2 : tie.Need-returns-2
 returns-2 c =
     let call = c .before .before in
-    merged-laid (merged (given (call .before .before .before))) (call .chunk-of-32 .ensures)
+    merged-laid (merged (given (call .before .before .before))) (call .chunk-of-64 .ensures)
 
 few-clusters-requires-2 : tie.Need-few-clusters-requires-2
 few-clusters-requires-2 c κs = search needs
@@ -114,7 +114,7 @@ merged-chunk-spec =
     returns
     slice-aggregate-glyphs
     few-clusters-requires
-    chunk-of-32-requires
+    chunk-of-64-requires
     same-length
     returns-2
     few-clusters-requires-2
