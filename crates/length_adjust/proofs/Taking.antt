@@ -5,8 +5,8 @@ use mathlib.Core.Bool.{Bool, true, false, not, cond, _||_, _&&_}
 use mathlib.Core.List.{List, [], _∷_, map}
 use native.Mathlib.Nat.{le-refl}
 use native.Mathlib.Omega.{arith}
-use lib.ListN.{length, take, set, replicate, length-map}
-use lib.Seq.{length-take-le}
+use lib.ListN.{length, set, replicate}
+use lib.Seq.{take-all}
 use lib.Dec.{eqb, leb, ltb}
 use borrow.Author.Tests.{eq-eqb, ne-eqb, lt-ltb, le-ltb, le-leb, lt-leb}
 use Rattle.labels.specs.Lists.{all, any, among, findIdx}
@@ -18,10 +18,12 @@ use Rattle.laws.proofs.All.{All, all-weaken, all-true}
 use Rattle.clusters.specs.Clusters.{indexesIn}
 use Rattle.sorting.specs.Sorted.{ascending}
 use Rattle.text_order.specs.Keys.{keyOf, keysOf}
+use Rattle.text_order.specs.Ordered.{Ordered}
 use Rattle.sorting.proofs.Cases.{in-order}
 use Rattle.sorting.proofs.Insertion.{all-sorted}
 use Rattle.sorting.proofs.Ascending.{sorted-ascends, ascending-of-ascends}
 use Rattle.text_order.proofs.TextKeys.{order-keys}
+use Rattle.text_order.proofs.Keys.{indexes-length}
 use Rattle.length_adjust.specs.Marks.{markedFrom, marked, mark, takingPart}
 use Rattle.length_adjust.proofs.Cases.{same-or-not}
 use Rattle.length_adjust.proofs.Firsts.{upFrom, found-places}
@@ -117,10 +119,6 @@ module _ (is : List ℕ) where
       (λ h. let e : hi - lo ≡ 0 = omega arith in
       rw e (sym (no-marks lo hi (omega arith) [] is)))
 
-indexes-length : (words : List (List ℕ)) (n : ℕ) → n ≤ length words → length (indexesIn words n) ≡ n
-unfolding indexesIn
-indexes-length words n h = length-map (take n words) _ ∙ length-take-le n words h
-
 -- the marks of the clusters of byte indexes `is`, found along their text order
 taking-part : (s : Span) (is keys : List ℕ) → length is ≤ 65536 → keys ≡ map keyOf (logicalOrder is)
     → marked (takingPart s keys (length is)) ≡ placesFrom s [] 0 is
@@ -134,20 +132,23 @@ keys-places k n (i ∷ is) h g = All.more {x = i * 65536 + k} (omega arith) (key
 
 -- ---- the same of n stored clusters
 
-module _ (words : List (List ℕ)) (n : ℕ) (keys : List ℕ) (h : n ≤ length words) (g : n ≤ 65536) (e : keys ≡ map keyOf (logicalOrder (indexesIn words n))) where
+module _ {keys : List ℕ} {words : List (List ℕ)} {n : ℕ} (all-keys : length keys ≡ n) (o : Ordered keys words n) where
+  order-is : keys ≡ map keyOf (logicalOrder (indexesIn words n))
+  order-is = sym (take-all n keys (omega arith)) ∙ o .keys
+
   few : length (indexesIn words n) ≤ 65536
-  few = rw (indexes-length words n h) g
+  few = rw (indexes-length words n (o .rows)) (o .few)
 
   pub marks-say : (s : Span) → marked (takingPart s keys n) ≡ placesFrom s [] 0 (indexesIn words n)
-  marks-say s = ap (λ (k : ℕ). marked (takingPart s keys k)) (sym (indexes-length words n h)) ∙ taking-part s (indexesIn words n) keys few e
+  marks-say s = ap (λ (k : ℕ). marked (takingPart s keys k)) (sym (indexes-length words n (o .rows))) ∙ taking-part s (indexesIn words n) keys few order-is
 
   pub order-ascends : ascending keys ≡ true
-  order-ascends = rw (e, order-keys (indexesIn words n) few) (ascending-of-ascends (sorted-ascends (keysOf (indexesIn words n))))
+  order-ascends = rw (order-is, order-keys (indexesIn words n) few) (ascending-of-ascends (sorted-ascends (keysOf (indexesIn words n))))
 
   pub order-places : all (λ (key : ℕ). ltb (key % 65536) n) keys ≡ true
   order-places =
-      rw (e, order-keys (indexesIn words n) few)
-      (all-true _ (all-weaken (λ key p. lt-ltb (key % 65536) n p) (all-sorted (keys-places 0 n (indexesIn words n) (rw (indexes-length words n h) (omega arith)) g))))
+      rw (order-is, order-keys (indexesIn words n) few)
+      (all-true _ (all-weaken (λ key p. lt-ltb (key % 65536) n p) (all-sorted (keys-places 0 n (indexesIn words n) (rw (indexes-length words n (o .rows)) (omega arith)) (o .few)))))
 
   pub order-looked : (s : Span) → bytesLooked s (map (λ (key : ℕ). key / 65536) keys) ≡ bytesLooked s (indexesIn words n)
-  order-looked s = ap (λ (ks : List ℕ). bytesLooked s (map indexOf ks)) e ∙ text-looked s (indexesIn words n) few
+  order-looked s = ap (λ (ks : List ℕ). bytesLooked s (map indexOf ks)) order-is ∙ text-looked s (indexesIn words n) few

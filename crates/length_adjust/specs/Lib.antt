@@ -1,3 +1,4 @@
 pub mod Marks
 pub mod Sums
 pub mod Answer
+pub mod Given

@@ -6,11 +6,11 @@ use crate::walk::scale;
 use crate::walk::taken;
 use labels::Span;
 ghost use mathlib.Core.Path.{_≡_};
-ghost use Prim.Native.Nat.{_≤_};
 ghost use lib.ListN.{length};
 ghost use Rattle.labels.specs.Job.{adjustSpacingAndGlyphs};
 ghost use Rattle.labels.specs.Cluster.{adjustGlyphsOf};
 ghost use Rattle.clusters.specs.Clusters.{clustersOf};
+ghost use Rattle.length_adjust.specs.Given.{Walkable};
 ghost use Rattle.length_adjust.specs.Marks.{markedIn};
 ghost use Rattle.length_adjust.specs.Answer.{adjustedOf};
 
@@ -22,8 +22,7 @@ pub fn adjust_glyphs(
     marks: &[u32],
     within: Range,
 ) -> Adjusted
-    requires { ⌜ (length (now marks) ≤ length (now floats)) × (length (now marks) ≤ length (now words)) × (within .to ≤ length (now marks))
-        × (span .adjust ≡ adjustSpacingAndGlyphs) ⌝ }
+    requires { ⌜ (span .adjust ≡ adjustSpacingAndGlyphs) × Walkable within (now marks) (now floats) (now words) ⌝ }
     ensures { λ r. ⌜ adjustedOf r (clustersOf (now (floats .exit)) (now (words .exit)) (length (now (marks .entry))))
         ≡ adjustGlyphsOf span (clustersOf (now (floats .entry)) (now (words .entry)) (length (now (marks .entry)))) (markedIn within (now (marks .entry))) ⌝ }
 {

@@ -12,16 +12,14 @@ use crate::spacing::adjust_spacing;
 use job_rows::numbered::span_in;
 use labels::Span;
 ghost use mathlib.Core.Path.{_≡_};
-ghost use Prim.Native.Nat.{_≤_, _<_};
-ghost use mathlib.Core.List.{map};
-ghost use lib.ListN.{length, take};
+ghost use Prim.Native.Nat.{_<_};
+ghost use lib.ListN.{length};
 ghost use Rattle.labels.specs.Outcome.{given};
-ghost use Rattle.labels.specs.Position.{logicalOrder};
 ghost use Rattle.labels.specs.Cluster.{adjustSpan, applyLengthAdjust};
 ghost use Rattle.labels.specs.Looked.{spanLooked, spansLooked};
-ghost use Rattle.clusters.specs.Clusters.{clustersOf, indexesIn};
+ghost use Rattle.clusters.specs.Clusters.{clustersOf};
 ghost use Rattle.job_rows.specs.Rows.{spansIn};
-ghost use Rattle.text_order.specs.Keys.{keyOf};
+ghost use Rattle.length_adjust.specs.Given.{Adjustable};
 ghost use Rattle.length_adjust.specs.Answer.{adjustedOf};
 
 // The clusters are adjusted, or the job is refused with this number.
@@ -44,8 +42,7 @@ pub fn adjust_span(
     floats: &mut [[f32; 10]],
     words: &mut [[u32; 6]],
 ) -> LengthAdjusted
-    requires { ⌜ (length (now marks) ≤ length (now floats)) × (length (now marks) ≤ length (now words)) × (length (now marks) ≤ 65_536)
-        × (now keys ≡ map keyOf (logicalOrder (indexesIn (now words) (length (now marks))))) ⌝ }
+    requires { ⌜ (length (now keys) ≡ length (now marks)) × Adjustable (now keys) (now marks) (now floats) (now words) (length (now marks)) ⌝ }
     ensures { λ r. ⌜ (adjustedOf (r .adjusted) (clustersOf (now (floats .exit)) (now (words .exit)) (length (now (marks .entry))))
         ≡ adjustSpan (given (clustersOf (now (floats .entry)) (now (words .entry)) (length (now (marks .entry))))) span)
         × (r .looked ≡ spanLooked (given (clustersOf (now (floats .entry)) (now (words .entry)) (length (now (marks .entry))))) span) × (r .looked < 65_536) ⌝ }
@@ -80,8 +77,8 @@ fn adjust_spans(
     floats: &mut [[f32; 10]],
     words: &mut [[u32; 6]],
 ) -> LengthAdjusted
-    requires { ⌜ (length (now marks) ≤ length (now floats)) × (length (now marks) ≤ length (now words)) × (length (now marks) ≤ 65_536) × (length (now spans) < 256)
-        × (now keys ≡ map keyOf (logicalOrder (indexesIn (now words) (length (now marks))))) ⌝ }
+    requires { ⌜ (length (now spans) < 256) × (length (now keys) ≡ length (now marks))
+        × Adjustable (now keys) (now marks) (now floats) (now words) (length (now marks)) ⌝ }
     ensures { λ r. ⌜ (adjustedOf (r .adjusted) (clustersOf (now (floats .exit)) (now (words .exit)) (length (now (marks .entry))))
         ≡ applyLengthAdjust (spansIn (now (s .entry)) (now (spans .entry))) (clustersOf (now (floats .entry)) (now (words .entry)) (length (now (marks .entry)))))
         × (r .looked ≡ spansLooked (given (clustersOf (now (floats .entry)) (now (words .entry)) (length (now (marks .entry))))) (spansIn (now (s .entry)) (now (spans .entry)))) ⌝ }
@@ -117,8 +114,7 @@ pub fn apply_length_adjust(
     words: &mut [[u32; 6]],
     n: usize,
 ) -> LengthAdjusted
-    requires { ⌜ (n ≤ length (now order)) × (n ≤ length (now taking)) × (n ≤ length (now floats)) × (n ≤ length (now words)) × (n ≤ 1_024)
-        × (length (now spans) < 256) × (take n (now order) ≡ map keyOf (logicalOrder (indexesIn (now words) n))) ⌝ }
+    requires { ⌜ (length (now spans) < 256) × Adjustable (now order) (now taking) (now floats) (now words) n ⌝ }
     ensures { λ r. ⌜ (adjustedOf (r .adjusted) (clustersOf (now (floats .exit)) (now (words .exit)) n)
         ≡ applyLengthAdjust (spansIn (now (s .entry)) (now (spans .entry))) (clustersOf (now (floats .entry)) (now (words .entry)) n))
         × (r .looked ≡ spansLooked (given (clustersOf (now (floats .entry)) (now (words .entry)) n)) (spansIn (now (s .entry)) (now (spans .entry)))) ⌝ }

@@ -10,6 +10,7 @@ ghost use lib.ListN.{length};
 ghost use Rattle.labels.specs.LengthAdjust.{placesFrom, spacingFactor, adjustSpacingOf};
 ghost use Rattle.labels.specs.Cluster.{rounded};
 ghost use Rattle.clusters.specs.Clusters.{clustersOf, indexesIn};
+ghost use Rattle.length_adjust.specs.Given.{Walkable};
 ghost use Rattle.length_adjust.specs.Marks.{markedIn};
 
 // What each of `count` clusters gets of the target. A cast is taken only of a number that is a float.
@@ -31,8 +32,8 @@ pub fn adjust_spacing(
     marks: &[u32],
     within: Range,
 )
-    requires { ⌜ (length (now marks) ≤ length (now floats)) × (length (now marks) ≤ length (now words)) × (length (now marks) ≤ 65_536)
-        × (within .to ≤ length (now marks)) × (markedIn within (now marks) ≡ placesFrom span [] 0 (indexesIn (now words) (length (now marks)))) ⌝ }
+    requires { ⌜ (length (now marks) ≤ 65_536) × Walkable within (now marks) (now floats) (now words)
+        × (markedIn within (now marks) ≡ placesFrom span [] 0 (indexesIn (now words) (length (now marks)))) ⌝ }
     ensures { λ _. ⌜ clustersOf (now (floats .exit)) (now (words .entry)) (length (now (marks .entry)))
         ≡ adjustSpacingOf rounded span (clustersOf (now (floats .entry)) (now (words .entry)) (length (now (marks .entry)))) ⌝ }
 {

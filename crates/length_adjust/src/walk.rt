@@ -6,7 +6,7 @@ use clusters::put_floats;
 use labels::Cluster;
 use labels::Span;
 ghost use mathlib.Core.Path.{_≡_};
-ghost use Prim.Native.Nat.{ℕ, _≤_};
+ghost use Prim.Native.Nat.{ℕ};
 ghost use mathlib.Core.List.{foldl};
 ghost use lib.ListN.{length};
 ghost use Rattle.labels.specs.Lists.{all, modify, atOr};
@@ -15,6 +15,7 @@ ghost use Rattle.labels.specs.ClusterParts.{withScale};
 ghost use Rattle.labels.specs.LengthAdjust.{takenOf, stretchedBy};
 ghost use Rattle.labels.specs.Cluster.{rounded, widthOf};
 ghost use Rattle.clusters.specs.Clusters.{clustersOf};
+ghost use Rattle.length_adjust.specs.Given.{Walkable};
 ghost use Rattle.length_adjust.specs.Marks.{markedIn};
 ghost use Rattle.length_adjust.specs.Sums.{takenAt};
 
@@ -41,7 +42,7 @@ pub fn taken(
     marks: &[u32],
     within: Range,
 ) -> Total
-    requires { ⌜ (length (now marks) ≤ length (now floats)) × (length (now marks) ≤ length (now words)) × (within .to ≤ length (now marks)) ⌝ }
+    requires { ⌜ Walkable within (now marks) (now floats) (now words) ⌝ }
     ensures { λ r. ⌜ r ≡ takenAt span (clustersOf (now (floats .entry)) (now (words .entry)) (length (now (marks .entry)))) (markedIn within (now (marks .entry))) ⌝ }
 {
     let mut sum: f32 = 0.0;
@@ -64,7 +65,7 @@ pub fn taken(
 
 // Whether each width is zero.
 pub fn all_zero(floats: &[[f32; 10]], words: &[[u32; 6]], marks: &[u32], within: Range) -> bool
-    requires { ⌜ (length (now marks) ≤ length (now floats)) × (length (now marks) ≤ length (now words)) × (within .to ≤ length (now marks)) ⌝ }
+    requires { ⌜ Walkable within (now marks) (now floats) (now words) ⌝ }
     ensures { λ r. ⌜ r ≡ all (λ (k : ℕ). isZero (atOr +0 widthOf (clustersOf (now (floats .entry)) (now (words .entry)) (length (now (marks .entry)))) k))
         (markedIn within (now (marks .entry))) ⌝ }
 {
@@ -100,7 +101,7 @@ pub fn stretch(
     within: Range,
     factor: f32,
 )
-    requires { ⌜ (length (now marks) ≤ length (now floats)) × (length (now marks) ≤ length (now words)) × (within .to ≤ length (now marks)) ⌝ }
+    requires { ⌜ Walkable within (now marks) (now floats) (now words) ⌝ }
     ensures { λ _. ⌜ clustersOf (now (floats .exit)) (now (words .entry)) (length (now (marks .entry)))
         ≡ foldl (modify (stretchedBy rounded span factor)) (clustersOf (now (floats .entry)) (now (words .entry)) (length (now (marks .entry)))) (markedIn within (now (marks .entry))) ⌝ }
 {
@@ -132,7 +133,7 @@ pub fn scale(
     within: Range,
     factor: f32,
 )
-    requires { ⌜ (length (now marks) ≤ length (now floats)) × (length (now marks) ≤ length (now words)) × (within .to ≤ length (now marks)) ⌝ }
+    requires { ⌜ Walkable within (now marks) (now floats) (now words) ⌝ }
     ensures { λ _. ⌜ clustersOf (now (floats .exit)) (now (words .exit)) (length (now (marks .entry)))
         ≡ foldl (modify (withScale factor)) (clustersOf (now (floats .entry)) (now (words .entry)) (length (now (marks .entry)))) (markedIn within (now (marks .entry))) ⌝ }
 {

@@ -18,7 +18,8 @@ use Rattle.clusters.proofs.Rows.{clusters-indexes}
 use Rattle.clusters.proofs.Turns.{cluster-get}
 use Rattle.position.specs.declared.Extent.{Extent}
 use Rattle.position.specs.declared.Positioned.{Positioned}
-use Rattle.position.specs.Given.{Ordered, Placed, extentIn}
+use Rattle.text_order.specs.Ordered.{Ordered}
+use Rattle.position.specs.Given.{Placed, extentIn}
 use Rattle.position.proofs.TextOrder.{entry-at, place-inside, first-place, last-place}
 
 -- ---- the cluster c at a place that the order gives

@@ -3,7 +3,7 @@ use Prim.Native.Nat.{ℕ, suc, _+_, _*_, _%_, _≤_, _<_}
 use native.Mathlib.Numerals.{add-one}
 use native.Mathlib.Omega.{arith}
 use mathlib.Core.Path.{_≡_, refl, sym, ap, _∙_}
-use mathlib.Core.List.{List, [], _∷_, _++_, map, foldl}
+use mathlib.Core.List.{List, [], _∷_, _++_, foldl}
 use lib.ListN.{length, getD, take, drop, length-append, length-map, take-append-drop, drop-of-length-le}
 use lib.Seq.{append-snoc, drop-cons, getD-at, getD-take, length-take-le}
 use lib.Dec.{leb}
@@ -12,7 +12,9 @@ use Rattle.job_rows.proofs.ByNumber.{map-in}
 use Rattle.labels.specs.Position.{Entry, entries, insert, logicalOrder, firstPlace, lastPlace, characterNumber}
 use Rattle.clusters.specs.Clusters.{indexesIn}
 use Rattle.text_order.specs.Keys.{keyOf}
-use Rattle.position.specs.Given.{Ordered, Numbered}
+use Rattle.text_order.specs.Ordered.{Ordered}
+use Rattle.text_order.proofs.Keys.{indexes-length}
+use Rattle.position.specs.Given.{Numbered}
 
 -- ---- each entry of the order stands for a byte index of the list
 
@@ -54,15 +56,6 @@ pub record EntryAt (order : List ℕ) (words : List (List ℕ)) (n i : ℕ) : Ty
 
 key-place : (index place key : ℕ) → key ≡ index * 65536 + place → place < 65536 → key % 65536 ≡ place
 key-place index place key e h = omega arith
-
-pub indexes-length : (words : List (List ℕ)) (n : ℕ) → n ≤ length words → length (indexesIn words n) ≡ n
-unfolding indexesIn
-indexes-length words n q = rw (length-map (take n words) (λ (w : List ℕ). getD w 0 0), length-take-le n words q)
-
--- rows that keep their byte indexes keep their order
-pub ordered-still : {order : List ℕ} {words : List (List ℕ)} {n : ℕ} (words′ : List (List ℕ)) → Ordered order words n → n ≤ length words′ → indexesIn words′ n ≡ indexesIn words n → Ordered order words′ n
-ordered-still words′ o q e =
-    record { rows = q; count = o .count; few = o .few; keys = o .keys ∙ ap (λ (is : List ℕ). map keyOf (logicalOrder is)) (sym e) }
 
 pub order-count : {order : List ℕ} {words : List (List ℕ)} {n : ℕ} → Ordered order words n → length (logicalOrder (indexesIn words n)) ≡ n
 order-count {order} {words} {n} o = sym (length-map (logicalOrder (indexesIn words n)) keyOf) ∙ sym (ap length (o .keys)) ∙ length-take-le n order (o .count)

@@ -7,19 +7,11 @@ use lib.Ieee.{Float}
 use Rattle.labels.specs.declared.Cluster.{Cluster}
 use Rattle.labels.specs.Job.{Job, Chunk}
 use Rattle.labels.specs.Position as labels
-use Rattle.labels.specs.Position.{logicalOrder, characterNumber}
+use Rattle.labels.specs.Position.{characterNumber}
 use Rattle.labels.specs.Layout.{resolveClustersPositionsHorizontal}
 use Rattle.clusters.specs.Clusters.{clustersOf, indexesIn}
-use Rattle.text_order.specs.Keys.{keyOf}
 use Rattle.position.specs.declared.Extent.{Extent}
 use Rattle.position.specs.declared.Positioned.{Positioned}
-
--- the first n keys are those of the n clusters in text order, and a place has room in a key
-pub record Ordered (order : List ℕ) (words : List (List ℕ)) (n : ℕ) : Type 0 where
-  pub rows : n ≤ length words
-  pub count : n ≤ length order
-  pub few : n ≤ 65536
-  pub keys : take n order ≡ map keyOf (logicalOrder (indexesIn words n))
 
 -- the first n numbers are those of the clusters' characters
 abbrev pub Numbered : List ℕ → ℕ → List ℕ → List (List ℕ) → ℕ → Type 0

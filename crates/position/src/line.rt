@@ -17,7 +17,8 @@ ghost use Rattle.labels.specs.Position.{processAnchor, pastAdvance, placedFrom,
 ghost use Rattle.labels.specs.Cluster.{rounded};
 ghost use Rattle.clusters.specs.Clusters.{clustersOf};
 ghost use Rattle.job_rows.specs.Rows.{jobAt};
-ghost use Rattle.position.specs.Given.{Ordered, Placeable, Placed, PlacedChunk};
+ghost use Rattle.text_order.specs.Ordered.{Ordered};
+ghost use Rattle.position.specs.Given.{Placeable, Placed, PlacedChunk};
 
 pub fn process_anchor(anchor: u8, width: f32) -> f32
     ensures { λ r. ⌜ r ≡ processAnchor rounded anchor width ⌝ }

@@ -15,7 +15,8 @@ ghost use Rattle.labels.specs.Position.{resolveRelativeShifts, turnShift, turnS
 ghost use Rattle.labels.specs.Cluster.{rounded};
 ghost use Rattle.clusters.specs.Clusters.{clustersOf};
 ghost use Rattle.job_rows.specs.Rows.{jobAt};
-ghost use Rattle.position.specs.Given.{Ordered, Numbered};
+ghost use Rattle.text_order.specs.Ordered.{Ordered};
+ghost use Rattle.position.specs.Given.{Numbered};
 
 pub fn with_shift(c: Cluster, x: f32, y: f32) -> Cluster
     ensures { λ r. ⌜ r ≡ rounded .withShift x y c ⌝ }

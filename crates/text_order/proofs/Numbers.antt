@@ -2,17 +2,16 @@
 use Prim.Native.Nat.{ℕ, _+_, _≤_, _<_}
 use mathlib.Core.Path.{_≡_, refl, sym, ap, _∙_}
 use mathlib.Core.Bool.{Bool, true, false, cond}
-use mathlib.Core.List.{List, [], _∷_, _++_, map}
+use mathlib.Core.List.{List, [], _∷_, _++_}
 use native.Mathlib.Numerals.{add-one}
 use native.Mathlib.Omega.{arith}
 use lib.ListN.{length, getD, take, drop, length-take, drop-of-length-le, take-append-drop}
 use lib.Seq.{drop-cons, take-take}
 use Rattle.labels.specs.Utf8.{continues, characters, codePointAt}
-use Rattle.labels.specs.Position.{logicalOrder, characterNumber}
-use Rattle.clusters.specs.Clusters.{indexesIn}
-use Rattle.text_order.specs.Keys.{keyOf}
-use Rattle.text_order.proofs.Keys.{indexes-length, indexes-at}
-use Rattle.text_order.proofs.Order.{placeIn, place-inside}
+use Rattle.labels.specs.Position.{characterNumber}
+use Rattle.text_order.specs.Ordered.{Ordered}
+use Rattle.text_order.proofs.Keys.{indexes-at}
+use Rattle.text_order.proofs.Order.{placeIn, indexIn, place-inside}
 
 -- ---- a byte that continues a character starts none, and any other starts one
 
@@ -59,19 +58,16 @@ module _ (text : List ℕ) where
   next-number offset at end number count e h f = omega (arith, characters-to at end h)
 
 -- ---- the number of the next cluster in text order: the walk stands at byte `at` with its number
-module _ (text order : List ℕ) (words : List (List ℕ)) (n offset at k : ℕ) where
+module _ (text : List ℕ) {order : List ℕ} {words : List (List ℕ)} {n : ℕ} (o : Ordered order words n) (offset at k : ℕ) where
   pub record Next (end next : ℕ) : Type 0 where
-    pub there : end ≡ getD (indexesIn words n) (placeIn order k) 0
+    pub there : end ≡ indexIn order words n k
     pub number : next ≡ characterNumber text offset end
     pub small : next ≤ offset + length text
 
-  pub walk-next : n ≤ 65536 → n ≤ length words → take n order ≡ map keyOf (logicalOrder (indexesIn words n)) → k < n
-      → (k < n → at ≤ getD (indexesIn words n) (placeIn order k) 0) → {end number count : ℕ} → end ≡ getD (getD words (placeIn order k) []) 0 0
+  pub walk-next : k < n → (k < n → at ≤ indexIn order words n k) → {end number count : ℕ} → end ≡ getD (getD words (placeIn order k) []) 0 0
       → number ≡ characterNumber text offset at → count ≡ characters (drop at (take end text)) → Next end (number + count)
-  walk-next few room keys h up {end} {number} {count} e en ec =
-      let len = indexes-length words n room in
-      let inside = place-inside (indexesIn words n) order n few len keys k h in
-      let there : end ≡ getD (indexesIn words n) (placeIn order k) 0 = e ∙ sym (indexes-at words n room (placeIn order k) inside) in
+  walk-next h up {end} {number} {count} e en ec =
+      let there : end ≡ indexIn order words n k = e ∙ sym (indexes-at words n (o .rows) (placeIn order k) (place-inside o k h)) in
       let next = next-number text offset at end number count en (omega (arith, up h, there)) ec in
       record { there = there; number = next; small = omega (arith, next, front-few text end) }
 

@@ -2,21 +2,19 @@
 use sorting::sort;
 use wire::place::part;
 ghost use mathlib.Core.Path.{_≡_};
-ghost use mathlib.Core.Bool.{true, cond};
+ghost use mathlib.Core.Bool.{cond};
 ghost use mathlib.Core.List.{map};
-ghost use Prim.Native.Nat.{ℕ, _+_, _≤_, _<_};
-ghost use lib.Dec.{ltb};
+ghost use Prim.Native.Nat.{_+_, _≤_, _<_};
 ghost use lib.ListN.{length, take, drop};
-ghost use Rattle.labels.specs.Lists.{all};
 ghost use Rattle.labels.specs.Utf8.{continues, characters};
 ghost use Rattle.labels.specs.Position.{logicalOrder, characterNumber};
 ghost use Rattle.clusters.specs.Clusters.{indexesIn};
 ghost use Rattle.text_order.specs.Keys.{keyOf, keysOf};
+ghost use Rattle.text_order.specs.Ordered.{Sortable, Ordered};
 
 // Each cluster's byte index and place as one number.
 fn put_keys(words: &[[u32; 6]], n: usize, order: &mut [u32])
-    requires { ⌜ (n ≤ 65_536) × (n ≤ length (now words)) × (n ≤ length (now order))
-        × (all (λ (i : ℕ). ltb i 65_536) (indexesIn (now words) n) ≡ true) ⌝ }
+    requires { ⌜ Sortable (now order) (now words) n ⌝ }
     ensures { λ _. ⌜ take n (now (order .exit)) ≡ keysOf (indexesIn (now (words .entry)) n) ⌝ }
 {
     let mut i: usize = 0;
@@ -28,8 +26,7 @@ fn put_keys(words: &[[u32; 6]], n: usize, order: &mut [u32])
 
 // The text order of `n` clusters: their keys, sorted. `spare` is overwritten.
 pub fn logical_order(words: &[[u32; 6]], n: usize, order: &mut [u32], spare: &mut [u32])
-    requires { ⌜ (n ≤ 65_536) × (n ≤ length (now words)) × (n ≤ length (now order)) × (n ≤ length (now spare))
-        × (all (λ (i : ℕ). ltb i 65_536) (indexesIn (now words) n) ≡ true) ⌝ }
+    requires { ⌜ (n ≤ length (now spare)) × Sortable (now order) (now words) n ⌝ }
     ensures { λ _. ⌜ take n (now (order .exit)) ≡ map keyOf (logicalOrder (indexesIn (now (words .entry)) n)) ⌝ }
 {
     put_keys(words, n, order);
@@ -82,8 +79,7 @@ pub fn character_numbers(
     order: &[u32],
     numbers: &mut [u32],
 )
-    requires { ⌜ (offset + length (now text) < 4_294_967_296) × (n ≤ 65_536) × (n ≤ length (now words)) × (n ≤ length (now order)) × (n ≤ length (now numbers))
-        × (take n (now order) ≡ map keyOf (logicalOrder (indexesIn (now words) n))) ⌝ }
+    requires { ⌜ (offset + length (now text) < 4_294_967_296) × (n ≤ length (now numbers)) × Ordered (now order) (now words) n ⌝ }
     ensures { λ _. ⌜ take n (now (numbers .exit)) ≡ map (characterNumber (now (text .entry)) offset) (indexesIn (now (words .entry)) n) ⌝ }
 {
     let mut number = offset;

@@ -24,9 +24,8 @@ marks-taken : (c : tie.After-mark-span) → let a = c .before .before .before .b
     markedIn (c .mark-span .result .within) marks ≡ placesFrom (a .span) [] 0 (indexesIn (a .words .now) (length marks))
 marks-taken c =
     let start = c .before .before .before .before .before .before in
-    let a = start .args in
     rw (c .mark-span .kept .1 .1 .0)
-    (c .mark-span .ensures .2 ∙ marks-say (a .words .now) (length (a .marks .now)) (a .keys .now) (omega arith) (omega arith) (start .pre .3) (a .span))
+    (c .mark-span .ensures .2 ∙ marks-say (start .pre .0) (start .pre .1 .ordered) (start .args .span))
 
 -- the bytes that were looked at
 bytes-counted : (c : tie.After-mark-span) → let a = c .before .before .before .before .before .before .args in
@@ -35,8 +34,8 @@ bytes-counted c =
     let start = c .before .before .before .before .before .before in
     let a = start .args in
     let n = length (a .marks .now) in
-    c .mark-span .ensures .0 ∙ order-looked (a .words .now) n (a .keys .now) (omega arith) (omega arith) (start .pre .3) (a .span)
-    ∙ ap (bytesLooked (a .span)) (sym (clusters-indexes (a .floats .now) (a .words .now) n (start .pre .0) (start .pre .1)))
+    c .mark-span .ensures .0 ∙ order-looked (start .pre .0) (start .pre .1 .ordered) (a .span)
+    ∙ ap (bytesLooked (a .span)) (sym (clusters-indexes (a .floats .now) (a .words .now) n (start .pre .1 .rows) (start .pre .1 .ordered .rows)))
     ∙ sym (looked-some (a .span) (clustersOf (a .floats .now) (a .words .now) n) (c .before .before .if1 .left))
 
 -- they are fewer than any end of a span
@@ -52,10 +51,8 @@ returns c = let a = c .before .before .before .before .args in (sym (span-free (
 
 mark-span-requires : tie.Need-mark-span-requires
 mark-span-requires c κs =
-    let start = c .before .before .before .before .before in
-    let a = start .args in
-    let n = length (a .marks .now) in
-    (order-ascends (a .words .now) n (a .keys .now) (omega arith) (omega arith) (start .pre .3), order-places (a .words .now) n (a .keys .now) (omega arith) (omega arith) (start .pre .3))
+    let given = c .before .before .before .before .before .pre in
+    (order-ascends (given .0) (given .1 .ordered), order-places (given .0) (given .1 .ordered))
 
 adjust-glyphs-requires : tie.Need-adjust-glyphs-requires
 adjust-glyphs-requires c κs = search needs
@@ -82,7 +79,7 @@ returns-2 c =
     let cs = clustersOf (a .floats .now) (a .words .now) n in
     let places : markedIn (marks .mark-span .result .within) (marks .mark-span .last .1 .1 .0) ≡ clusterIndexes rounded (a .span) cs =
     (rw (marks .mark-span .kept .1 .1 .0) at (marks-taken marks))
-    ∙ ap (placesFrom (a .span) [] 0) (sym (clusters-indexes (a .floats .now) (a .words .now) n (start .pre .0) (start .pre .1))) in (
+    ∙ ap (placesFrom (a .span) [] 0) (sym (clusters-indexes (a .floats .now) (a .words .now) n (start .pre .1 .rows) (start .pre .1 .ordered .rows))) in (
       (rw (marks .mark-span .kept .1 .1 .0) at (made .adjust-glyphs .ensures))
           ∙ ap (adjustGlyphsOf (a .span) cs) places ∙ sym (span-scaled (a .span) cs (some .if1 .left) (glyphs .if2 .taken)),
       bytes-counted marks,
@@ -92,7 +89,7 @@ returns-2 c =
 adjust-spacing-requires : tie.Need-adjust-spacing-requires
 adjust-spacing-requires c κs =
     let m = c .before .before .before .before .before .before .before .before in
-    (omega arith, omega arith, omega arith, omega (arith, m .mark-span .ensures .1, m .mark-span .kept .1 .1 .0), marks-taken m)
+    (omega arith, record { floatRows = omega arith; wordRows = omega arith; end = omega (arith, m .mark-span .ensures .1, m .mark-span .kept .1 .1 .0) }, marks-taken m)
 
 same-length-4 : tie.Need-same-length-4
 same-length-4 c = search needs

@@ -11,6 +11,7 @@ use Rattle.labels.specs.Cluster.{adjustSpan, applyLengthAdjust}
 use Rattle.labels.specs.Looked.{spanLooked, spansLooked}
 use Rattle.clusters.specs.Clusters.{clustersOf, indexesIn}
 use Rattle.job_rows.specs.Rows.{spansIn}
+use Rattle.text_order.proofs.Order.{ordered-still}
 use Rattle.length_adjust.specs.Answer.{adjustedOf}
 use Rattle.length_adjust.proofs.Kept.{span-order, refused-stays, looked-turn, looked-done, refused-looks}
 use borrow.Author.Needs.{needs}
@@ -66,14 +67,16 @@ adjust-span-requires c κs =
     let head = c .before .before .before .before .before in
     let start = head .before .before .before .before .before in
     let l = head .loop in
-    (omega (arith, l .inv, start .pre), omega (arith, l .inv, start .pre), omega (arith, l .inv, start .pre), rw (l .inv .0, l .inv .3) (start .pre .4))
+    let given = start .pre .2 in
+    let ordered = ordered-still (l .words) (given .ordered) (omega (arith, l .inv .2, given .ordered .rows)) (l .inv .3) in
+    rw (l .inv .0) (start .pre .1, record { ordered = ordered; marked = omega (arith, l .inv .0); rows = omega (arith, l .inv .1, given .rows) })
 
 add-looked : tie.Need-add-looked Inv-loop μ-loop
 add-looked c =
     let made = c .before .before .before .before .before in
     let turn = made .before .before .before .before .before in
     let l = turn .before .loop in
-    omega (arith, l .inv .5, adjusted-span made .2, turn .loop-test .taken, turn .before .before .before .before .before .before .pre .3)
+    omega (arith, l .inv .5, adjusted-span made .2, turn .loop-test .taken, turn .before .before .before .before .before .before .pre .0)
 
 enum-known-adjusted : tie.Need-enum-known-adjusted Inv-loop μ-loop
 enum-known-adjusted c = search needs

@@ -33,7 +33,7 @@ mul-order-2 : tie.Need-mul-order-2 Inv-loop μ-loop
 mul-order-2 c =
     let a = c .before .before .before .args in
     let l = c .before .before .loop in
-    let h = index-small (a .words .now) (a .n) (omega arith) (c .before .before .before .pre .3) (l .i) (omega arith) in
+    let h = index-small (a .words .now) (a .n) (omega arith) (c .before .before .before .pre .indexes) (l .i) (omega arith) in
     search needs
 
 cast-order : tie.Need-cast-order Inv-loop μ-loop
@@ -43,7 +43,7 @@ add-order : tie.Need-add-order Inv-loop μ-loop
 add-order c =
     let a = c .before .before .before .args in
     let l = c .before .before .loop in
-    let h = index-small (a .words .now) (a .n) (omega arith) (c .before .before .before .pre .3) (l .i) (omega arith) in
+    let h = index-small (a .words .now) (a .n) (omega arith) (c .before .before .before .pre .indexes) (l .i) (omega arith) in
     search needs
 
 mul-order-3 : tie.Need-mul-order-3 Inv-loop μ-loop

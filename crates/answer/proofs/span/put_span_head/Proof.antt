@@ -32,18 +32,18 @@ same-length c = search needs
 
 returns : tie.Need-returns
 returns c =
-    let s = c .before .before .before .before .before .before .before .before .before .before .before .before .before .before in
-    let a = s .args in
+    let third = c .before .before in
+    let second = third .before .before .before .before in
+    let first = second .before .before .before .before .before in
+    let a = first .before .before .before .args in
     let index = bytes 1 (a .k) in
     let values = flatMap floatBytes (a .values .now) in
     let count = bytes 2 (a .runs) in
     let n₁ = length-bytes 1 (a .k) in
     let n₂ = length-floats (a .values .now) in
     let n₃ = length-bytes 2 (a .runs) in
-    let u = c .before .before .before .before .before .before .before .before .before .before .before .put-u8 .ensures in
-    let f = c .before .before .before .before .before .before .put-floats .ensures in
-    let all = splice-then (a .out .now) (a .at) index _ values u f (omega arith) (omega arith) in
-    splice-then (a .out .now) (a .at) (index ++ values) _ count all (c .before .before .put-number .ensures) (simp length-append (omega arith)) (simp length-append (omega arith))
+    let all = splice-then (a .out .now) (a .at) index _ values (first .put-u8 .ensures) (second .put-floats .ensures) (omega arith) (omega arith) in
+    splice-then (a .out .now) (a .at) (index ++ values) _ count all (third .put-number .ensures) (simp length-append (omega arith)) (simp length-append (omega arith))
     ∙ ap (splice (a .out .now) (a .at)) (append-assoc index values count)
 
 pub put-span-head-spec : {M : Type 1} → statement M

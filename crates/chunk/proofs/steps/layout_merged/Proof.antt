@@ -7,13 +7,14 @@ use lib.ListN.{length, take}
 use lib.Seq.{length-take-le}
 use Rattle.labels.specs.Outcome.{given}
 use Rattle.labels.specs.Decode.{chunkOf}
-use Rattle.labels.specs.Position.{logicalOrder, characterNumber}
+use Rattle.labels.specs.Position.{characterNumber}
 use Rattle.labels.specs.Answer.{ChunkRow, chunkRowBytes}
 use Rattle.labels.specs.Layout.{adjustedClusters}
 use Rattle.job_rows.specs.Rows.{glyphsAt}
 use Rattle.clusters.specs.Clusters.{clustersOf, indexesIn}
 use Rattle.clusters.proofs.Rows.{clusters-length}
-use Rattle.text_order.specs.Keys.{keyOf}
+use Rattle.text_order.specs.Ordered.{Sortable, Ordered}
+use Rattle.text_order.proofs.Order.{ordered-still}
 use Rattle.length_adjust.specs.Answer.{adjustedOf}
 use Rattle.answer.proofs.ChunkRows.{empty-length}
 use Rattle.answer.specs.Chunks.{chunkRowMost, rowAt}
@@ -160,30 +161,41 @@ spaced-indexes c =
     letter-rows _ _ _ _ _ _ (omega (arith, turned-floats (turned c), fits form .floatRows)) (omega (arith, formed-words form, fits form .wordRows))
     (omega (arith, spaced-floats c, fits form .floatRows)) (omega (arith, spaced-words c, fits form .wordRows)) (c .apply-letter-spacing .ensures)
 
+-- the clusters can be put in text order
+sortable : (c : tie.After-apply-word-spacing) → let spacing = spaced c in let form = formed (turned spacing) in
+    Sortable (tables form .args .order .now) (spacing .apply-letter-spacing .last .1 .1 .1 .0) (form .form-clusters .result)
+sortable c =
+    let form = formed (turned (spaced c)) in
+    let is = form .form-clusters .ensures in
+    record {
+      rows = omega (arith, spaced-words (spaced c), fits form .wordRows);
+      count = fits form .ordered;
+      few = omega (arith, is .few, tables form .pre .0 .few);
+      indexes = rw (spaced-indexes (spaced c)) (is .indexes);
+    }
+
 logical-order-requires : tie.Need-logical-order-requires
 logical-order-requires c κs =
-    let spacing = spaced (c .before .before .before .before) in
-    let form = formed (turned spacing) in
-    let is = form .form-clusters .ensures in (
-      omega (arith, is .few, tables form .pre .0 .few),
-      omega (arith, spaced-words spacing, fits form .wordRows),
-      fits form .ordered,
-      fits form .spared,
-      rw (spaced-indexes spacing) (is .indexes),
-    )
+    let word = c .before .before .before .before in
+    (fits (formed (turned (spaced word))) .spared, sortable word)
+
+-- and then are
+in-order : (c : tie.After-logical-order) → let spacing = spaced (worded c) in
+    Ordered (c .logical-order .last .1 .1 .0) (spacing .apply-letter-spacing .last .1 .1 .1 .0) (formed (turned spacing) .form-clusters .result)
+in-order c =
+    let before = sortable (worded c) in
+    record { rows = before .rows; count = omega (arith, c .logical-order .kept .1 .1 .0, before .count); few = before .few; keys = c .logical-order .ensures }
 
 apply-length-adjust-requires : tie.Need-apply-length-adjust-requires
 apply-length-adjust-requires c κs =
     let order = c .before .before .before .before .before .before .before .before in
-    let form = formed (turned (spaced (worded order))) in
-    let given = tables form .pre .0 in (
-      omega (arith, order .logical-order .kept .1 .1 .0, fits form .ordered),
-      omega (arith, order .logical-order .kept .1 .1 .1 .0, fits form .spared),
-      omega (arith, worded-floats (worded order), fits form .floatRows),
-      omega (arith, spaced-words (spaced (worded order)), fits form .wordRows),
-      omega (arith, form .form-clusters .ensures .few, given .few),
-      omega (arith, given .spanned .few),
-      order .logical-order .ensures,
+    let form = formed (turned (spaced (worded order))) in (
+      omega (arith, tables form .pre .0 .spanned .few),
+      record {
+        ordered = in-order order;
+        marked = omega (arith, order .logical-order .kept .1 .1 .1 .0, fits form .spared);
+        rows = omega (arith, worded-floats (worded order), fits form .floatRows);
+      },
     )
 
 -- what step 6 answers is what steps 2 to 6 answer
@@ -231,15 +243,16 @@ module _ (c : tie.After-enum-told) where
       ≡ given (clustersOf (adjust .last .1 .1 .1 .1 .0) (adjust .last .1 .1 .1 .1 .1 .0) (form (done c) .form-clusters .result))
   given-is = done-given _ _ (told (done c)) (c .enum-told .given .1)
 
-  -- their text order
-  keys : let adjust = done c .apply-length-adjust in let n = form (done c) .form-clusters .result in
-      take n (ordered (done c) .logical-order .last .1 .1 .0) ≡ map keyOf (logicalOrder (indexesIn (adjust .last .1 .1 .1 .1 .1 .0) n))
-  keys =
+  -- in text order still
+  still : Ordered (ordered (done c) .logical-order .last .1 .1 .0) (done c .apply-length-adjust .last .1 .1 .1 .1 .1 .0) (form (done c) .form-clusters .result)
+  still =
       let adjust = done c in
       let fit = fits (form adjust) in
-      rw (done-kept _ _ _ _ _ (omega (arith, worded-floats (worded (ordered adjust)), fit .floatRows)) (omega (arith, spaced-words (spaced (worded (ordered adjust))), fit .wordRows))
-      (omega (arith, adjusted-floats adjust, fit .floatRows)) (omega (arith, adjusted-words adjust, fit .wordRows)) _ _ (c .enum-told .given .1) (adjust .apply-length-adjust .ensures .0))
-      (ordered adjust .logical-order .ensures)
+      let order = in-order (ordered adjust) in
+      let rows : form adjust .form-clusters .result ≤ length (adjust .apply-length-adjust .last .1 .1 .1 .1 .1 .0) = omega (arith, adjusted-words adjust, fit .wordRows) in
+      ordered-still _ order rows
+      (done-kept _ _ _ _ _ (omega (arith, worded-floats (worded (ordered adjust)), fit .floatRows)) (order .rows) (omega (arith, adjusted-floats adjust, fit .floatRows)) rows
+      _ _ (c .enum-told .given .1) (adjust .apply-length-adjust .ensures .0))
 
 -- the text is the chunk's, and short
 text-is : (c : tie.After-text-of) → let a = start c .args in c .text-of .result .now ≡ chunkIn (a .s .now) (a .next) .text
@@ -291,15 +304,7 @@ character-numbers-requires c κs =
     let adjusted = c .before .before .before .before in
     let adjust = done adjusted in
     let text = begun (form adjust) in
-    let given = start text .pre .0 in
-    let fit = fits (form adjust) in (
-      omega (arith, text-short text, given .spanned .checked .offset),
-      omega (arith, form adjust .form-clusters .ensures .few, given .few),
-      omega (arith, adjusted-words adjust, fit .wordRows),
-      omega (arith, adjusted-order adjust, fit .ordered),
-      omega (arith, adjusted-spare adjust, fit .spared),
-      keys adjusted,
-    )
+    (omega (arith, text-short text, start text .pre .0 .spanned .checked .offset), omega (arith, adjusted-spare adjust, fits (form adjust) .spared), still adjusted)
 
 anchor-at-requires : tie.Need-anchor-at-requires
 anchor-at-requires c κs = search needs
@@ -309,19 +314,13 @@ resolve-clusters-positions-horizontal-requires c κs =
     let numbers = c .before .before .before .before .before .before .before in
     let adjusted = some numbers .before in
     let adjust = done adjusted in
-    let given = tables (form adjust) .pre .0 in
     let fit = fits (form adjust) in (
       record {
         some = omega (arith, some numbers .if1 .left);
         rows = omega (arith, adjusted-floats adjust, fit .floatRows);
         numbered = omega (arith, adjusted-spare adjust, fit .spared, numbers .character-numbers .kept .1 .1 .1 .1 .1 .0);
       },
-      record {
-        rows = omega (arith, adjusted-words adjust, fit .wordRows);
-        count = omega (arith, adjusted-order adjust, fit .ordered);
-        few = omega (arith, form adjust .form-clusters .ensures .few, given .few);
-        keys = keys adjusted;
-      },
+      still adjusted,
     )
 
 origin-of-requires : tie.Need-origin-of-requires

@@ -25,12 +25,16 @@ spans-pass-requires c κs = search needs
 
 returns : tie.Need-returns
 returns c =
-    let a = c .before .before .before .before .before .before .before .before .before .before .before .before .args in
+    let second = c .before .before .before .before in
+    let first = second .before .before in
+    let text = first .before .before .before in
+    let head = text .before in
+    let a = head .before .before .args in
     rw (
-      chunk-test (a .fonts) (c .before .before .before .before .before .before .before .before .before .text-of .result .now) (a .chunk .now),
-      ← c .before .before .before .before .before .before .before .before .before .before .head-at .ensures,
-      ← c .before .before .before .before .before .before .flagged-ok .ensures,
-      ← c .before .before .before .before .flagged-ok2 .ensures,
+      chunk-test (a .fonts) (text .text-of .result .now) (a .chunk .now),
+      ← head .head-at .ensures,
+      ← first .flagged-ok .ensures,
+      ← second .flagged-ok2 .ensures,
       ← c .before .span-bytes .ensures,
       ← c .spans-pass .ensures,
     )

@@ -44,13 +44,14 @@ u8-within-requires-6 c κs = search needs
 returns : tie.Need-returns
 unfolding spanOf
 returns c =
-    let read = spanOf (c .before .before .before .before .before .before .before .before .before .before .before .before .before .args .row .now) in
-    let start : _ ≡ read .start = c .before .before .before .before .before .before .before .before .before .before .before .u16-within .ensures in
-    let end : _ ≡ read .end = c .before .before .before .before .before .before .before .before .before .before .u16-within2 .ensures in
-    let font : _ ≡ read .font = c .before .before .before .before .before .before .before .before .before .u8-within .ensures in
-    let size : _ ≡ read .size = c .before .before .before .before .before .before .before .before .f32-within .ensures in
-    let letter : _ ≡ read .letter = c .before .before .before .before .before .before .before .f32-within2 .ensures in
-    let word : _ ≡ read .word = c .before .before .before .before .before .before .f32-within3 .ensures in
+    let middle = c .before .before .before .before .before .before in
+    let read = spanOf (middle .before .before .before .before .before .before .before .args .row .now) in
+    let start : _ ≡ read .start = middle .before .before .before .before .before .u16-within .ensures in
+    let end : _ ≡ read .end = middle .before .before .before .before .u16-within2 .ensures in
+    let font : _ ≡ read .font = middle .before .before .before .u8-within .ensures in
+    let size : _ ≡ read .size = middle .before .before .f32-within .ensures in
+    let letter : _ ≡ read .letter = middle .before .f32-within2 .ensures in
+    let word : _ ≡ read .word = middle .f32-within3 .ensures in
     let fixed : _ ≡ read .fixed = c .before .before .before .before .before .u8-within2 .ensures in
     let length : _ ≡ read .length = c .before .before .before .before .f32-within4 .ensures in
     let adjust : _ ≡ read .adjust = c .before .before .before .u8-within3 .ensures in

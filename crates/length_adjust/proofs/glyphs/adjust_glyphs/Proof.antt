@@ -17,7 +17,7 @@ widths : (c : tie.After-taken) → let a = c .before .before .before .before .ar
 widths c =
     let start = c .before .before .before .before in
     let a = start .args in
-    c .taken .ensures ∙ widths-taken (a .span) _ (start .pre .3) (markedIn (a .within) (a .marks .now))
+    c .taken .ensures ∙ widths-taken (a .span) _ (start .pre .0) (markedIn (a .within) (a .marks .now))
 
 taken-requires : tie.Need-taken-requires
 taken-requires c κs = search needs

@@ -38,7 +38,7 @@ returns c =
     let n = length (a .marks .now) in
     let cs = clustersOf (a .floats .now) (a .words .now) n in
     let same : markedIn (a .within) (a .marks .now) ≡ clusterIndexes rounded (a .span) cs =
-    start .pre .4 ∙ ap (placesFrom (a .span) [] 0) (sym (clusters-indexes (a .floats .now) (a .words .now) n (start .pre .0) (start .pre .1))) in
+    start .pre .2 ∙ ap (placesFrom (a .span) [] 0) (sym (clusters-indexes (a .floats .now) (a .words .now) n (start .pre .1 .floatRows) (start .pre .1 .wordRows))) in
     rw (made .stretch .ensures, factor .spacing-factor .ensures, total .taken .ensures, spaced-at (a .span) cs (markedIn (a .within) (a .marks .now)) same)
 
 pub adjust-spacing-spec : {M : Type 1} → statement M

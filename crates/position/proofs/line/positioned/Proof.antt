@@ -8,6 +8,19 @@ use Rattle.position.proofs.Ends.{first-get, last-get, returned}
 use Rattle.position.proofs.line.positioned.Statement.{statement}
 use Rattle.position.proofs.line.positioned.Tie as tie
 
+-- ---- from place to place
+
+abbrev call : tie.After-extent-of → tie.Start
+call c = c .before .before .before
+
+abbrev reached : tie.After-cluster-at → tie.After-extent-of
+reached c = c .before .before .before .before
+
+abbrev read : tie.After-process-anchor → tie.After-cluster-at
+read c = c .before .before .before .before .before .before
+
+-- ---- the needs
+
 extent-of-requires : tie.Need-extent-of-requires
 extent-of-requires c κs = search needs
 
@@ -17,7 +30,7 @@ place-at-requires c κs = search needs
 cluster-at-requires : tie.Need-cluster-at-requires
 cluster-at-requires c κs =
     let at = c .before in
-    let start = at .before .before .before .before .before in
+    let start = call (at .before .before) in
     let h = key-inside (start .pre .2) 0 (start .pre .0) (at .place-at .ensures) in
     (omega (arith, start .pre .0, start .pre .1), omega (arith, start .pre .0, start .pre .2 .rows))
 
@@ -26,13 +39,13 @@ sub-end c = search needs
 
 place-at-requires-2 : tie.Need-place-at-requires-2
 place-at-requires-2 c κs =
-    let start = c .before .before .before .before .before .before .before in
+    let start = call (reached c) in
     omega (arith, start .pre .0, start .pre .2 .count)
 
 cluster-at-requires-2 : tie.Need-cluster-at-requires-2
 cluster-at-requires-2 c κs =
     let at = c .before in
-    let start = at .before .before .before .before .before .before .before .before in
+    let start = call (reached (at .before)) in
     let h = key-inside (start .pre .2) (start .args .n - 1) (omega (arith, start .pre .0)) (at .place-at2 .ensures) in
     (omega (arith, start .pre .0, start .pre .1), omega (arith, start .pre .0, start .pre .2 .rows))
 
@@ -41,7 +54,7 @@ process-anchor-requires c κs = search needs
 
 place-from-requires : tie.Need-place-from-requires
 place-from-requires c κs =
-    let start = c .before .before .before .before .before .before .before .before .before .before .before .before .before .before in
+    let start = call (reached (read (c .before))) in
     (start .pre .1, start .pre .2 .rows)
 
 same-length : tie.Need-same-length
@@ -53,10 +66,10 @@ returns c =
     let anchor = placed .before .before in
     let last = anchor .before .before .before in
     let last-at = last .before .before in
-    let first = last-at .before in
+    let first = read anchor in
     let first-at = first .before .before in
-    let reach = first-at .before .before in
-    let start = reach .before .before .before in
+    let reach = reached first in
+    let start = call reach in
     let a = start .args in
     returned (a .anchor) (clustersOf (a .floats .now) (a .words .now) (a .n)) (reach .extent-of .result) (first .cluster-at .result) (last .cluster-at2 .result) (anchor .process-anchor .result) (placed .place-from .result)
     (reach .extent-of .ensures)

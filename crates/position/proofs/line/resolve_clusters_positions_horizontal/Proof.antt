@@ -4,7 +4,7 @@ use native.Mathlib.Omega.{arith}
 use borrow.Author.Needs.{needs}
 use Rattle.clusters.specs.Clusters.{clustersOf}
 use Rattle.job_rows.specs.Rows.{jobAt}
-use Rattle.position.proofs.TextOrder.{ordered-still}
+use Rattle.text_order.proofs.Order.{ordered-still}
 use Rattle.position.proofs.Ends.{stages}
 use Rattle.position.proofs.line.resolve_clusters_positions_horizontal.Statement.{statement}
 use Rattle.position.proofs.line.resolve_clusters_positions_horizontal.Tie as tie
