@@ -1,7 +1,10 @@
 -- The merged list as the code holds it, and the answer to a chunk's merge. Definitions only.
 use Prim.Native.Nat.{ℕ, _≤_, _<_}
+use mathlib.Core.Path.{_≡_}
 use mathlib.Core.List.{List, [], foldl}
 use lib.ListN.{length, drop}
+use Rattle.laws.proofs.All.{All}
+use Rattle.job_rows.specs.Rows.{partsIn}
 unfoldable pub use Rattle.job_rows.specs.Rows.{glyphsIn}
 use Rattle.labels.specs.Outcome.{Outcome, refused, given}
 use Rattle.labels.specs.Bytes.{rows as records}
@@ -31,3 +34,11 @@ Held (M.Refused k) = 0 < k
 -- a span's own list is no longer than its limit, as check 3 has it
 abbrev pub FewGlyphs : SpanParts → Type 0
 FewGlyphs p = length (p .glyphs) ≤ limits .glyphs
+
+-- what the merge of a chunk asks for: the record, the spans at the places `spans` and their own lists are within their limits, and the lent rows are as
+-- many as the list may have
+pub record Mergeable (s spans rows : List ℕ) : Type 0 where
+  pub size : length s ≤ 1_048_576
+  pub few : length spans ≤ 255
+  pub own : All FewGlyphs (partsIn s spans)
+  pub room : length rows ≡ limits .merged

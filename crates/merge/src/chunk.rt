@@ -25,9 +25,8 @@ ghost use Rattle.labels.specs.Outcome.{given};
 ghost use Rattle.labels.specs.Bytes.{rows as records};
 ghost use Rattle.labels.specs.Decode.{glyphOf, glyphBytes, partsOf};
 ghost use Rattle.labels.specs.Merge.{mergeSpan, mergeGlyphs};
-ghost use Rattle.laws.proofs.All.{All};
 ghost use Rattle.job_rows.specs.Rows.{partsIn};
-ghost use Rattle.merge.specs.Merged.{glyphsIn, mergedOf, mergedInto, Held, FewGlyphs};
+ghost use Rattle.merge.specs.Merged.{glyphsIn, mergedOf, mergedInto, Held, FewGlyphs, Mergeable};
 ghost use Rattle.merge.specs.Steps.{NoLater, Begun, OwnFew, Ended};
 
 // The entries of a table of first places for the longest text.
@@ -162,8 +161,7 @@ pub fn merge_span(
 
 // The spans one after the other. The marks are cleared once; a span's stamp is its number, from 1 on.
 fn merge_spans(s: &[u8], spans: &[usize], rows: &mut [u32; 1024]) -> Merge
-    requires { ⌜ (length (now s) ≤ 1_048_576) × (length (now spans) ≤ 255)
-        × All FewGlyphs (partsIn (now s) (now spans)) × (length (now rows) ≡ 1024) ⌝ }
+    requires { ⌜ Mergeable (now s) (now spans) (now rows) ⌝ }
     ensures { λ r. ⌜ (length (now (rows .exit)) ≡ 1024)
         × Held r
         × (mergedOf r (now (s .entry)) (now (rows .exit)) ≡ mergeGlyphs (partsIn (now (s .entry)) (now (spans .entry)))) ⌝ }
@@ -185,8 +183,7 @@ fn merge_spans(s: &[u8], spans: &[usize], rows: &mut [u32; 1024]) -> Merge
 // The glyphs of the spans that stand at the places `spans`, merged into one list: its rows are the first of `rows`. A single span, as most
 // labels have, has nothing to be merged with.
 pub fn process_chunk(s: &[u8], spans: &[usize], rows: &mut [u32; 1024]) -> Merge
-    requires { ⌜ (length (now s) ≤ 1_048_576) × (length (now spans) ≤ 255)
-        × All FewGlyphs (partsIn (now s) (now spans)) × (length (now rows) ≡ 1024) ⌝ }
+    requires { ⌜ Mergeable (now s) (now spans) (now rows) ⌝ }
     ensures { λ r. ⌜ (length (now (rows .exit)) ≡ 1024)
         × Held r
         × (mergedOf r (now (s .entry)) (now (rows .exit)) ≡ mergeGlyphs (partsIn (now (s .entry)) (now (spans .entry)))) ⌝ }

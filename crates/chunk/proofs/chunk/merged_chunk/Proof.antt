@@ -25,7 +25,7 @@ many c = c .before .before
 process-chunk-requires : tie.Need-process-chunk-requires
 process-chunk-requires c κs =
     let p = c .before .before .before .before .pre in
-    (omega (arith, p .checked .size), omega (arith, p .few), few-glyphs p, length-replicate {A = ℕ} 1024 0)
+    record { size = omega (arith, p .checked .size); few = omega (arith, p .few); own = few-glyphs p; room = length-replicate {A = ℕ} 1024 0 }
 
 enum-known-n : tie.Need-enum-known-n
 enum-known-n c = search needs

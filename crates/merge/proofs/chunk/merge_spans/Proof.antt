@@ -33,7 +33,7 @@ loop-holds : tie.Need-loop-holds Inv-loop μ-loop
 loop-holds c =
     let start = c .before .before in
     let a = start .args in
-    (start .pre .3, length-replicate {A = ℕ} 1024 0, below-clear 1024, omega arith, omega arith, start .pre .2, spans-start (a .s .now) (a .rows .now) (partsIn (a .s .now) (a .spans .now)))
+    (start .pre .room, length-replicate {A = ℕ} 1024 0, below-clear 1024, omega arith, omega arith, start .pre .own, spans-start (a .s .now) (a .rows .now) (partsIn (a .s .now) (a .spans .now)))
 
 add-stamp : tie.Need-add-stamp Inv-loop μ-loop
 add-stamp c = search needs
@@ -53,7 +53,7 @@ merge-span-requires c κs =
     let start = loop .before .before .before in
     let a = start .args in
     let l = loop .loop in
-    (start .pre .0, few-here (a .s .now) (a .spans .now) (l .i) (omega arith) (l .inv .5), record { row-room = l .inv .0; mark-room = l .inv .1; earlier = l .inv .2; few = l .inv .3 })
+    (start .pre .size, few-here (a .s .now) (a .spans .now) (l .i) (omega arith) (l .inv .5), record { row-room = l .inv .0; mark-room = l .inv .1; earlier = l .inv .2; few = l .inv .3 })
 
 enum-known-n : tie.Need-enum-known-n Inv-loop μ-loop
 enum-known-n c = search needs

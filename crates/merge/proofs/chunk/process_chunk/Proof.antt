@@ -15,8 +15,8 @@ list-span-requires : tie.Need-list-span-requires
 list-span-requires c κs =
     let start = c .before .before .before .before .before in
     let a = start .args in
-    let few = few-here (a .s .now) (a .spans .now) 0 (omega arith) (start .pre .2) in
-    (start .pre .0, few, omega (arith, few, start .pre .3))
+    let few = few-here (a .s .now) (a .spans .now) 0 (omega arith) (start .pre .own) in
+    (start .pre .size, few, omega (arith, few, start .pre .room))
 
 returns : tie.Need-returns
 unfolding mergedOf
@@ -24,7 +24,7 @@ returns c =
     let start = c .before .before .before .before .before .before in
     let a = start .args in
     let listed = c .list-span in
-    (listed .ensures .0 ∙ start .pre .3, rw (listed .ensures .1) (few-here (a .s .now) (a .spans .now) 0 (omega arith) (start .pre .2)), ap given (listed .ensures .2) ∙ sym (single-span (a .s .now) (a .spans .now) (omega arith)))
+    (listed .ensures .0 ∙ start .pre .room, rw (listed .ensures .1) (few-here (a .s .now) (a .spans .now) 0 (omega arith) (start .pre .own)), ap given (listed .ensures .2) ∙ sym (single-span (a .s .now) (a .spans .now) (omega arith)))
 
 merge-spans-requires : tie.Need-merge-spans-requires
 merge-spans-requires c κs = search needs
