@@ -1,8 +1,8 @@
 -- The answer says what the definitions' `checked` does: it is accepted exactly where that gives a job, and refused under the number
--- that that refuses with, from 1 to 6. Assumes nothing.
+-- that that refuses with, from 1 to the highest of a check. Assumes nothing.
 use Prim.Native.Nat.{ℕ, _<_, _≤_}
 use mathlib.Core.Path.{_≡_, refl, ap, subst}
-use mathlib.Core.Bool.{_&&_}
+use mathlib.Core.Bool.{Bool, _&&_}
 use mathlib.Core.List.{List}
 use native.Mathlib.Omega.{arith}
 use lib.Dec.{T, ltb, leb, ltb→lt, leb→le}
@@ -18,16 +18,23 @@ use Rattle.labels.specs.declared.Job.{Job}
 use Rattle.job.specs.Answer.{numberOf, placesOf, answerAfter, answerOf}
 use Rattle.job.specs.declared.check.Checked.the-variants.{Accepted, Refused}
 
--- the numbers of the checks lie from 1 to 6, and so does that of the first that fails
+-- the highest number of a check
+abbrev pub highest : ℕ
+highest = 6
+
+abbrev isNumber : ℕ → Bool
+isNumber n = ltb 0 n && leb n highest
+
+-- the numbers of the checks lie from 1 to the highest, and so does that of the first that fails
 abbrev Numbered : Outcome (Unit {0}) → Type 0
-Numbered (refused n) = T (ltb 0 n && leb n 6)
+Numbered (refused n) = T (isNumber n)
 Numbered (given u) = Unit {0}
 
-first-numbered : (bs : List ℕ) (n : ℕ) → firstFailing checks bs ≡ refused n → (0 < n) × (n ≤ 6)
+first-numbered : (bs : List ℕ) (n : ℕ) → firstFailing checks bs ≡ refused n → (0 < n) × (n ≤ highest)
 unfolding checks all
 first-numbered bs n e =
-    let t = subst Numbered e (first-keeps Numbered checks bs tt (all-of (λ (c : Check (List ℕ)). ltb 0 (c .number) && leb (c .number) 6) checks tt)) in
-    (ltb→lt 0 n (and-l (ltb 0 n) (leb n 6) t), leb→le n 6 (and-r (ltb 0 n) (leb n 6) t))
+    let t = subst Numbered e (first-keeps Numbered checks bs tt (all-of (λ (c : Check (List ℕ)). isNumber (c .number)) checks tt)) in
+    (ltb→lt 0 n (and-l (ltb 0 n) (leb n highest) t), leb→le n highest (and-r (ltb 0 n) (leb n highest) t))
 
 -- what `checked` and the answer make of the first check that fails
 module _ (bs : List ℕ) where
@@ -79,16 +86,16 @@ module _ (bs : List ℕ) where
   unfolding numberOf
   number-where-refused n e = ap numberOf (refused-where-refused n e)
 
-  -- a refusal has a number from 1 to 6, so 0 says that the job is accepted
-  pub refusal-numbered : (n : ℕ) → answerOf bs ≡ Refused n → (0 < n) × (n ≤ 6)
+  -- a refusal has a number from 1 to the highest, so 0 says that the job is accepted
+  pub refusal-numbered : (n : ℕ) → answerOf bs ≡ Refused n → (0 < n) × (n ≤ highest)
   unfolding answerOf
   refusal-numbered n e = first-numbered bs n (first-refused (firstFailing checks bs) n e)
 
-  zero-accepted : (o : Outcome (Unit {0})) → ((n : ℕ) → o ≡ refused n → (0 < n) × (n ≤ 6)) → numberOf (answerAfter o bs) ≡ 0 → answerAfter o bs ≡ Accepted (placesOf bs)
+  zero-accepted : (o : Outcome (Unit {0})) → ((n : ℕ) → o ≡ refused n → 0 < n) → numberOf (answerAfter o bs) ≡ 0 → answerAfter o bs ≡ Accepted (placesOf bs)
   unfolding numberOf answerAfter
-  zero-accepted (refused n) h e = absurd (omega (arith, h n refl .0))
+  zero-accepted (refused n) h e = absurd (omega (arith, h n refl))
   zero-accepted (given u) h e = refl
 
   pub accepted-where-zero : numberOf (answerOf bs) ≡ 0 → answerOf bs ≡ Accepted (placesOf bs)
   unfolding answerOf
-  accepted-where-zero = zero-accepted (firstFailing checks bs) (first-numbered bs)
+  accepted-where-zero = zero-accepted (firstFailing checks bs) (λ n e. first-numbered bs n e .0)
