@@ -2,17 +2,17 @@
 -- changes, and what is seen of its layout, in the rows and in the answer's bytes.
 use Prim.Native.Nat.{ℕ, suc}
 use mathlib.Core.Path.{_≡_, refl}
-use mathlib.Core.List.{List, [], _∷_, _++_, map}
+use mathlib.Core.List.{List, [], _∷_, _++_, map, foldl}
 use lib.ListN.{length, take}
 use Rattle.labels.specs.Outcome.{Outcome, given, andThen}
 use Rattle.labels.specs.Check.{checked}
 use Rattle.labels.specs.Script.Tag.{tag}
 use Rattle.labels.specs.Decoration.{Run}
 use Rattle.labels.specs.Answer.{ChunkRow, ClusterRow, SpanRow, readAnswer}
-use Rattle.labels.specs.Layout.{LaidChunk, layoutJob, layoutOf, rowsOf}
+use Rattle.labels.specs.Layout.{LaidChunk, Progress, beginning, layoutChunk, layoutJob, layoutOf, rowsOf}
 use Rattle.labels.specs.Compute.{computed}
 use Rattle.labels.proofs.Seen.{bits, whole, below, -0, shown}
-use Rattle.labels.proofs.Jobs.{Variant, plainVariant, lengthVariant, labelJob, built}
+use Rattle.labels.proofs.Jobs.{Variant, fontRow, chunkRow, jobRow, labelSpan, plainVariant, lengthVariant, labelJob, built}
 
 -- ---- what is seen of a layout: the lines that platelist prints, each cluster's with its scale, nudge, ascent and shift y besides
 
@@ -232,3 +232,24 @@ printed : map (λ (line : List ℕ). take 6 line) (P1 .expected)
     ∷ []
 unfolding computed shown P1
 printed = refl
+
+-- ---- the extent that is kept of the last chunk
+
+-- the label, a chunk with no cluster, and the label brought to 54 by Spacing
+threeLabels : List ℕ
+threeLabels =
+    jobRow 0 (fontRow ∷ []) [] []
+    (chunkRow 2 (65 ∷ 32 ∷ 66 ∷ []) (labelSpan (plainVariant (tag "Latn") (whole 1)) ∷ [])
+    ∷ chunkRow 2 (66 ∷ []) []
+    ∷ chunkRow 2 (65 ∷ 32 ∷ 66 ∷ []) (labelSpan (lengthVariant 1 (whole 54) 0 []) ∷ [])
+    ∷ [])
+
+-- what is kept after the first k chunks of a job
+keptAfter : List ℕ → ℕ → Outcome ℕ
+keptAfter bs k =
+    andThen (checked bs) (λ j. andThen (foldl (layoutChunk j) (given beginning) (take k (j .chunks))) (λ (st : Progress). given (bits (st .extent))))
+
+-- 0 before the first and where there is no cluster; 28 is 11 + 7 + 10, and 54 is 25 + 19 + 25 less the last cluster's length spacing, 15
+kept : map (keptAfter threeLabels) (0 ∷ 1 ∷ 2 ∷ 3 ∷ []) ≡ given 0 ∷ given (whole 28) ∷ given 0 ∷ given (whole 54) ∷ []
+unfolding computed built shown threeLabels keptAfter
+kept = refl
