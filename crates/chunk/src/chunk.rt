@@ -19,7 +19,7 @@ use wire::place::from;
 ghost use Rattle.chunk.specs.Steps.{chunkLaid, ChunkLaid};
 ghost use Rattle.chunk.specs.Checked.{CheckedChunk, SpannedChunk};
 
-// A chunk of one span with at most so many glyphs is laid out without the merged list.
+// So many glyphs are few: tables of 32 rows do for their clusters, and if they are a single span's there is no merged list either.
 const SHORT: usize = 32;
 
 // The chunk's spans, which stand at the places `spans`, are merged; and then steps 2 to 8 on tables for as many clusters as the merged glyphs make.
@@ -38,6 +38,9 @@ fn merged_chunk(s: &[u8], next: NextChunk, spans: &[usize], out: &mut [u8]) -> L
     let count = merged.count;
     let rows: &[u32] = &merged.rows;
     let glyphs = &rows[..count];
+    if count <= SHORT {
+        return chunk_of_32(s, next, spans, glyphs, out);
+    }
     if few_clusters(s, spans, glyphs, 64) {
         return chunk_of_64(s, next, spans, glyphs, out);
     }

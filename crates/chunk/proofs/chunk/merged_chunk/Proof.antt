@@ -16,8 +16,11 @@ use Rattle.chunk.proofs.chunk.merged_chunk.Tie as tie
 abbrev start : tie.After-process-chunk → tie.Start
 start c = c .before .before .before .before .before
 
-abbrev given : tie.After-few-clusters → tie.After-n
-given c = c .before .before .before .before .before .before
+abbrev given : tie.After-glyphs → tie.After-n
+given c = c .before .before .before .before .before
+
+abbrev longer : tie.After-few-clusters → tie.After-glyphs
+longer c = c .before .before
 
 abbrev many : tie.After-few-clusters2 → tie.After-few-clusters
 many c = c .before .before
@@ -59,13 +62,10 @@ module _ (c : tie.After-n) where
 slice-aggregate-glyphs : tie.Need-slice-aggregate-glyphs
 slice-aggregate-glyphs c = let merge = c .before .before .before .before .before in lent-length (rows merge) (held merge)
 
-few-clusters-requires : tie.Need-few-clusters-requires
-few-clusters-requires c κs = search needs
-
-chunk-of-64-requires : tie.Need-chunk-of-64-requires
-chunk-of-64-requires c κs =
-    let test = c .before .before in
-    (leb-true _ 64 (rw (← test .few-clusters .ensures) (c .before .if1 .taken)), merged (given test))
+chunk-of-32-requires : tie.Need-chunk-of-32-requires
+chunk-of-32-requires c κs =
+    let merge = given (c .before .before) in
+    (omega (arith, few-clusters (a merge .args .s .now) (a merge .args .spans .now) (glyphs merge), lent-length (rows merge) (held merge), c .before .if1 .taken), merged merge)
 
 same-length : tie.Need-same-length
 same-length c = search needs
@@ -73,15 +73,15 @@ same-length c = search needs
 returns-2 : tie.Need-returns-2
 returns-2 c =
     let call = c .before .before in
-    merged-laid (merged (given (call .before .before .before))) (call .chunk-of-64 .ensures)
+    merged-laid (merged (given (call .before .before .before))) (call .chunk-of-32 .ensures)
 
-few-clusters-requires-2 : tie.Need-few-clusters-requires-2
-few-clusters-requires-2 c κs = search needs
+few-clusters-requires : tie.Need-few-clusters-requires
+few-clusters-requires c κs = search needs
 
-chunk-of-256-requires : tie.Need-chunk-of-256-requires
-chunk-of-256-requires c κs =
+chunk-of-64-requires : tie.Need-chunk-of-64-requires
+chunk-of-64-requires c κs =
     let test = c .before .before in
-    (leb-true _ 256 (rw (← test .few-clusters2 .ensures) (c .before .if2 .taken)), merged (given (many test)))
+    (leb-true _ 64 (rw (← test .few-clusters .ensures) (c .before .if2 .taken)), merged (given (longer test)))
 
 same-length-2 : tie.Need-same-length-2
 same-length-2 c = search needs
@@ -89,12 +89,15 @@ same-length-2 c = search needs
 returns-3 : tie.Need-returns-3
 returns-3 c =
     let call = c .before .before in
-    merged-laid (merged (given (many (call .before .before .before)))) (call .chunk-of-256 .ensures)
+    merged-laid (merged (given (longer (call .before .before .before)))) (call .chunk-of-64 .ensures)
 
-chunk-of-1024-requires : tie.Need-chunk-of-1024-requires
-chunk-of-1024-requires c κs =
-    let merge = given (many (c .before .before)) in
-    (omega (arith, few-clusters (a merge .args .s .now) (a merge .args .spans .now) (glyphs merge), merged merge .few), merged merge)
+few-clusters-requires-2 : tie.Need-few-clusters-requires-2
+few-clusters-requires-2 c κs = search needs
+
+chunk-of-256-requires : tie.Need-chunk-of-256-requires
+chunk-of-256-requires c κs =
+    let test = c .before .before in
+    (leb-true _ 256 (rw (← test .few-clusters2 .ensures) (c .before .if3 .taken)), merged (given (longer (many test))))
 
 same-length-3 : tie.Need-same-length-3
 same-length-3 c = search needs
@@ -102,7 +105,20 @@ same-length-3 c = search needs
 returns-4 : tie.Need-returns-4
 returns-4 c =
     let call = c .before .before in
-    merged-laid (merged (given (many (call .before .before .before)))) (call .chunk-of-1024 .ensures)
+    merged-laid (merged (given (longer (many (call .before .before .before))))) (call .chunk-of-256 .ensures)
+
+chunk-of-1024-requires : tie.Need-chunk-of-1024-requires
+chunk-of-1024-requires c κs =
+    let merge = given (longer (many (c .before .before))) in
+    (omega (arith, few-clusters (a merge .args .s .now) (a merge .args .spans .now) (glyphs merge), merged merge .few), merged merge)
+
+same-length-4 : tie.Need-same-length-4
+same-length-4 c = search needs
+
+returns-5 : tie.Need-returns-5
+returns-5 c =
+    let call = c .before .before in
+    merged-laid (merged (given (longer (many (call .before .before .before))))) (call .chunk-of-1024 .ensures)
 
 pub merged-chunk-spec : {M : Type 1} → statement M
 merged-chunk-spec =
@@ -113,14 +129,17 @@ merged-chunk-spec =
     enum-known-number
     returns
     slice-aggregate-glyphs
-    few-clusters-requires
-    chunk-of-64-requires
+    chunk-of-32-requires
     same-length
     returns-2
-    few-clusters-requires-2
-    chunk-of-256-requires
+    few-clusters-requires
+    chunk-of-64-requires
     same-length-2
     returns-3
-    chunk-of-1024-requires
+    few-clusters-requires-2
+    chunk-of-256-requires
     same-length-3
-    returns-4)
+    returns-4
+    chunk-of-1024-requires
+    same-length-4
+    returns-5)
