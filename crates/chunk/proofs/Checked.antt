@@ -9,7 +9,7 @@ use Rattle.laws.proofs.All.{All, all-weaken, all-every, all-true, first, rest}
 use Rattle.laws.proofs.Counted.{chunk-counted}
 use Rattle.laws.proofs.ChunkPassed.{PassedGlyph, merged-passed}
 use Rattle.labels.specs.declared.Glyph.{Glyph}
-use Rattle.labels.specs.Job.{SpanParts, spansOf, limits}
+use Rattle.labels.specs.Job.{Chunk, SpanParts, spansOf, limits}
 use Rattle.labels.specs.Decode.{partsOf}
 use Rattle.labels.specs.Check.{glyphOk, unitsOk}
 use Rattle.labels.specs.Merge.{mergeGlyphs}
@@ -25,9 +25,12 @@ is-true true t = refl
 is-true false t = absurd t
 
 -- the spans at their places are the chunk's
-pub spans-are : {s : List ℕ} {next : NextChunk} {spans : List ℕ} → SpannedChunk s next spans → spansIn s spans ≡ spansOf (chunkIn s next)
+pub spans-of : (s spans : List ℕ) (c : Chunk) → partsIn s spans ≡ c .parts → spansIn s spans ≡ spansOf c
 unfolding spansIn partsIn partsOf
-spans-are {s} {spans = spans} p = sym (map-map (λ (p : SpanParts). p .span) (λ (a : ℕ). partsOf (drop a s)) spans) ∙ ap (map (λ (p : SpanParts). p .span)) (p .parts)
+spans-of s spans c e = sym (map-map (λ (p : SpanParts). p .span) (λ (a : ℕ). partsOf (drop a s)) spans) ∙ ap (map (λ (p : SpanParts). p .span)) e
+
+pub spans-are : {s : List ℕ} {next : NextChunk} {spans : List ℕ} → SpannedChunk s next spans → spansIn s spans ≡ spansOf (chunkIn s next)
+spans-are {s} {next} {spans} p = spans-of s spans (chunkIn s next) (p .parts)
 
 -- the text is short
 pub few-bytes : {s : List ℕ} {next : NextChunk} → CheckedChunk s next → length (chunkIn s next .text) ≤ limits .text

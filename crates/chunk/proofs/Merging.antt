@@ -1,31 +1,43 @@
 -- What a chunk's merge asks for is checked; behind it the chunk is laid out, or refused with the merge's number. Assumes nothing.
-use Prim.Native.Nat.{ℕ, _≤_}
+use Prim.Native.Nat.{ℕ, zero, suc, _+_, _≤_}
 use mathlib.Core.Path.{_≡_, refl, sym, ap, subst, _∙_}
-use mathlib.Core.List.{List}
+use mathlib.Core.List.{List, [], _∷_}
 use native.Mathlib.Omega.{arith}
-use lib.ListN.{length, take, drop, getD, length-take}
-use Rattle.laws.proofs.All.{All, all-weaken}
+use lib.ListN.{length, take, drop, length-take}
+use Rattle.laws.proofs.All.{All, all-weaken, first, rest}
 use Rattle.laws.proofs.Counted.{CountedParts, chunk-counted}
-use Rattle.laws.proofs.Records.{length-rows}
 use Rattle.labels.specs.Outcome.{given, andThen}
-use Rattle.labels.specs.Job.{SpanParts}
-use Rattle.labels.specs.Decode.{glyphBytes, glyphOf, glyphCount, partsOf}
+use Rattle.labels.specs.Lists.{atOr}
+use Rattle.labels.specs.Job.{SpanParts, limits}
 use Rattle.labels.specs.Merge.{mergeGlyphs}
 use Rattle.labels.specs.Layout.{layoutChunk}
 use Rattle.job_rows.specs.Rows.{partsIn, glyphsIn}
 use Rattle.merge.specs.declared.Merge.{Merge}
 use Rattle.merge.specs.declared.Merge.the-variants as M
 use Rattle.merge.specs.Merged.{mergedOf, Held, FewGlyphs}
-use Rattle.merge.proofs.Spans.{single-span}
+use Rattle.laws.proofs.Search.{find-le}
+use Rattle.merge.specs.Source.{hasGlyphs, glyphSpan, spanGlyphs}
+use Rattle.merge.proofs.Alone.{parts-length, alone-merged}
 use Rattle.chunk.specs.declared.progress.NextChunk.{NextChunk}
 use Rattle.chunk.specs.declared.progress.Laid.{Laid}
 use Rattle.chunk.specs.declared.progress.Laid.the-variants.{Refused}
-use Rattle.chunk.specs.Checked.{SpannedChunk, MergedChunk}
+use Rattle.chunk.specs.Checked.{SpannedChunk, OwnMerged, MergedChunk}
 use Rattle.chunk.specs.Steps.{chunkLaid, laidFrom, putFrom, mergedLaid, ChunkLaid}
 
-pub glyphs-counted : (span : List ℕ) → length (partsOf span .glyphs) ≡ glyphCount span
-unfolding partsOf
-glyphs-counted span = length-rows (λ b. glyphBytes) glyphOf (glyphCount span) _
+all-atOr : (ps : List SpanParts) (k : ℕ) → All FewGlyphs ps → length (spanGlyphs ps k) ≤ limits .glyphs
+unfolding atOr
+all-atOr [] k h = omega arith
+all-atOr (p ∷ ps) zero h = first h
+all-atOr (p ∷ ps) (suc k) h = all-atOr ps k (rest h)
+
+-- `own` is the first span that has glyphs, and `other` the next behind it
+module _ (s spans : List ℕ) {own : ℕ} (e : own ≡ glyphSpan (partsIn s spans) 0) where
+  pub own-within : own ≤ length spans
+  own-within = omega (arith, e, find-le hasGlyphs (partsIn s spans), parts-length s spans)
+
+  -- where there is none, the first one's glyphs are merged as they stand
+  pub own-alone : {other : ℕ} → other ≡ glyphSpan (partsIn s spans) (own + 1) → length spans ≤ other → OwnMerged s spans own
+  own-alone f h = rw e (alone-merged (partsIn s spans) (rw (← rw e at f, parts-length s spans) h))
 
 module _ {s : List ℕ} {next : NextChunk} {spans : List ℕ} (p : SpannedChunk s next spans) where
   pub few-glyphs : All FewGlyphs (partsIn s spans)
@@ -33,10 +45,14 @@ module _ {s : List ℕ} {next : NextChunk} {spans : List ℕ} (p : SpannedChunk 
       subst (All FewGlyphs) (sym (p .parts))
       (all-weaken (λ (q : SpanParts) (h : CountedParts q). h .glyphs) (chunk-counted (drop (next .at) s) (p .checked .fits) .parts))
 
-  -- a single span's own glyphs are merged as they are
-  pub single-merged : length spans ≡ 1 → (rows : List ℕ) {n : ℕ} → n ≤ 32 → glyphsIn s rows n ≡ partsOf (drop (getD spans 0 0) s) .glyphs → MergedChunk s next spans (take n rows)
+  -- one span's own glyphs, listed
+  pub own-few : (own : ℕ) → length (spanGlyphs (partsIn s spans) own) ≤ limits .glyphs
+  own-few own = all-atOr (partsIn s spans) own few-glyphs
+
+  pub own-merged : (own : ℕ) → OwnMerged s spans own → (rows : List ℕ) {n : ℕ} → n ≡ length (spanGlyphs (partsIn s spans) own)
+      → glyphsIn s rows n ≡ spanGlyphs (partsIn s spans) own → MergedChunk s next spans (take n rows)
   unfolding glyphsIn
-  single-merged one rows few own = record { spanned = p; few = rw length-take (omega arith); glyphs = single-span s spans one ∙ ap given (sym own) }
+  own-merged own e rows many is = record { spanned = p; few = rw length-take (omega (arith, many, own-few own)); glyphs = e ∙ ap given (sym is) }
 
   -- the rows that the merge left, where it gave glyphs
   pub list-merged : (rows : List ℕ) {r : Merge} {n : ℕ} → r ≡ M.Merged n → (length rows ≡ 1024) × Held r × (mergedOf r s rows ≡ mergeGlyphs (partsIn s spans))

@@ -13,7 +13,7 @@ use Rattle.labels.specs.Bytes.{rows}
 use Rattle.labels.specs.Decode.{spanSize, partsOf, spansAt, spanCount, spanBytes, chunkFits, chunkOf}
 use Rattle.job_rows.specs.Rows.{partsIn}
 use Rattle.chunk.specs.declared.progress.NextChunk.{NextChunk}
-use Rattle.chunk.specs.Checked.{CheckedChunk, SpannedChunk}
+use Rattle.chunk.specs.Checked.{ShapedChunk, SpansFound, CheckedChunk, SpannedChunk}
 
 -- the first n places of a list are lent
 pub lent-length : {n : ℕ} (places : List ℕ) → n ≤ length places → n ≡ length (take n places)
@@ -33,22 +33,29 @@ module _ {n : ℕ} (places own : List ℕ) (few : n ≤ length places) (same : l
   pub back-length : n ≡ length (take n (own ++ drop n places))
   back-length = sym (ap length own-back ∙ own-length)
 
-module _ {s : List ℕ} {next : NextChunk} (k : CheckedChunk s next) {chunk : List ℕ} (here : chunk ≡ drop (next .at) s) where
+module _ {s : List ℕ} {at : ℕ} (k : ShapedChunk s at) {chunk : List ℕ} (here : chunk ≡ drop at s) where
   pub few-spans : {n : ℕ} → n ≡ spanCount chunk → n ≤ limits .spans
   unfolding chunkFits
   few-spans e = rw (e, here) (leb→le _ _ (first (rest (all-every _ (k .fits)))))
 
-  pub first-within : {m : ℕ} → m ≡ spansAt chunk → next .at + m + 1 ≤ length s
+  pub first-within : {m : ℕ} → m ≡ spansAt chunk → at + m + 1 ≤ length s
   unfolding chunkFits
   first-within e =
-      let ends : spansAt (drop (next .at) s) + 1 ≤ length (drop (next .at) s) = leb→le _ _ (first (rest (rest (all-every _ (k .fits))))) in
+      let ends : spansAt (drop at s) + 1 ≤ length (drop at s) = leb→le _ _ (first (rest (rest (all-every _ (k .fits))))) in
       rw (e, here) (omega (arith, rw length-drop at ends, k .begins))
 
   -- as many places as there are spans, counted from the first
-  pub places-of : (places : List ℕ) {m n held : ℕ} → m ≡ spansAt chunk → n ≡ spanCount chunk → n ≡ held → length places ≡ held
-      → partsIn s places ≡ rows spanSize partsOf held (drop (next .at + m + 1) s) → SpannedChunk s next places
+  pub places-of : (places : List ℕ) {m n held : ℕ} → m ≡ spansAt chunk → n ≡ spanCount chunk → n ≡ held
+      → partsIn s places ≡ rows spanSize partsOf held (drop (at + m + 1) s) → partsIn s places ≡ chunkOf (drop at s) .parts
   unfolding chunkOf spanBytes
-  places-of places m-is n-is same l e =
-      let began : drop (next .at + spansAt (drop (next .at) s) + 1) s ≡ spanBytes (drop (next .at) s) =
-      ap (λ (i : ℕ). drop i s) (add-assoc (next .at) (spansAt (drop (next .at) s)) 1) ∙ sym (drop-drop (spansAt (drop (next .at) s) + 1) (next .at) s) in
-      record { checked = k; few = rw (l, sym same) (few-spans n-is); parts = e ∙ rw (sym same, m-is, n-is, here) (ap (rows spanSize partsOf (spanCount (drop (next .at) s))) began) }
+  places-of places m-is n-is same e =
+      let began : drop (at + spansAt (drop at s) + 1) s ≡ spanBytes (drop at s) =
+      ap (λ (i : ℕ). drop i s) (add-assoc at (spansAt (drop at s)) 1) ∙ sym (drop-drop (spansAt (drop at s) + 1) at s) in
+      e ∙ rw (sym same, m-is, n-is, here) (ap (rows spanSize partsOf (spanCount (drop at s))) began)
+
+-- what check 3 has shown of a chunk, and the spans that are found
+pub shape-of : {s : List ℕ} {next : NextChunk} → CheckedChunk s next → ShapedChunk s (next .at)
+shape-of k = record { size = k .size; begins = k .begins; fits = k .fits }
+
+pub spanned-of : {s : List ℕ} {next : NextChunk} → CheckedChunk s next → {places : List ℕ} {n : ℕ} → SpansFound s (next .at) places n → SpannedChunk s next (take n places)
+spanned-of k f = record { checked = k; few = rw length-take (omega (arith, f .few)); parts = f .parts }

@@ -2,17 +2,29 @@
 use Prim.Native.Nat.{ℕ, _*_, _≤_}
 use mathlib.Core.Path.{_≡_}
 use mathlib.Core.List.{List}
-use lib.ListN.{length, drop}
+use lib.ListN.{length, take, drop}
 use lib.Dec.{T}
 use lib.Ieee.{Float}
 use Rattle.labels.specs.Outcome.{given}
 use Rattle.labels.specs.Job.{limits}
-use Rattle.labels.specs.Decode.{chunkFits}
+use Rattle.labels.specs.Decode.{chunkFits, chunkOf}
 use Rattle.labels.specs.Check.{chunkOk, spansOk}
 use Rattle.labels.specs.Merge.{mergeGlyphs}
 use Rattle.job_rows.specs.Rows.{partsIn, glyphsAt}
+use Rattle.merge.specs.Source.{spanGlyphs}
 use Rattle.chunk.specs.declared.progress.NextChunk.{NextChunk}
 use Rattle.chunk.specs.Steps.{chunkIn}
+
+-- the chunk at `at` passes check 3
+pub record ShapedChunk (s : List ℕ) (at : ℕ) : Type 0 where
+  pub size : length s ≤ limits .bytes
+  pub begins : at ≤ length s
+  pub fits : T (chunkFits (drop at s))
+
+-- its n spans stand at the first n of the places
+pub record SpansFound (s : List ℕ) (at : ℕ) (places : List ℕ) (n : ℕ) : Type 0 where
+  pub few : n ≤ limits .spans
+  pub parts : partsIn s (take n places) ≡ chunkOf (drop at s) .parts
 
 -- the chunk passes checks 3, 4 and 6; no more characters came before it than a record may have bytes, and for 25 of these no more than 64 bytes of
 -- the answer: so no number overflows
@@ -30,6 +42,10 @@ pub record SpannedChunk (s : List ℕ) (next : NextChunk) (spans : List ℕ) : T
   pub checked : CheckedChunk s next
   pub few : length spans ≤ limits .spans
   pub parts : partsIn s spans ≡ chunkIn s next .parts
+
+-- the glyphs of span number `own` are the merged list as they stand
+abbrev pub OwnMerged : List ℕ → List ℕ → ℕ → Type 0
+OwnMerged s spans own = mergeGlyphs (partsIn s spans) ≡ given (spanGlyphs (partsIn s spans) own)
 
 -- and their merged glyphs at the places `merged`
 pub record MergedChunk (s : List ℕ) (next : NextChunk) (spans merged : List ℕ) : Type 0 where

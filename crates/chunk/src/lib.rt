@@ -1,6 +1,8 @@
 // A chunk of a checked job: its spans found and merged, laid out on rows for its clusters, and its row put into the answer.
 pub mod chunk;
+mod find;
 mod pen;
 pub mod progress;
+pub mod settled;
 mod steps;
 mod tables;

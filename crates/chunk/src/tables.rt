@@ -3,6 +3,7 @@
 use crate::progress::Laid;
 use crate::progress::NextChunk;
 use crate::steps::layout_merged;
+use forming::few::few_clusters;
 ghost use Prim.Native.Nat.{_≤_};
 ghost use Rattle.forming.specs.Groups.{clustersIn};
 ghost use Rattle.chunk.specs.Steps.{ChunkLaid, mergedLaid};
@@ -65,13 +66,7 @@ pub fn chunk_of_64(
 }
 
 // For at most 256 clusters.
-pub fn chunk_of_256(
-    s: &[u8],
-    next: NextChunk,
-    spans: &[usize],
-    merged: &[u32],
-    out: &mut [u8],
-) -> Laid
+fn chunk_of_256(s: &[u8], next: NextChunk, spans: &[usize], merged: &[u32], out: &mut [u8]) -> Laid
     requires { ⌜ (clustersIn (now s) (now spans) (now merged) ≤ 256) × MergedChunk (now s) next (now spans) (now merged) ⌝ }
     ensures { λ r. ⌜ ChunkLaid (next .before) r (now (out .entry)) (now (out .exit)) (mergedLaid (now (s .entry)) next (now (merged .entry))) ⌝ }
 {
@@ -93,13 +88,7 @@ pub fn chunk_of_256(
 }
 
 // For at most 1,024 clusters.
-pub fn chunk_of_1024(
-    s: &[u8],
-    next: NextChunk,
-    spans: &[usize],
-    merged: &[u32],
-    out: &mut [u8],
-) -> Laid
+fn chunk_of_1024(s: &[u8], next: NextChunk, spans: &[usize], merged: &[u32], out: &mut [u8]) -> Laid
     requires { ⌜ (clustersIn (now s) (now spans) (now merged) ≤ 1_024) × MergedChunk (now s) next (now spans) (now merged) ⌝ }
     ensures { λ r. ⌜ ChunkLaid (next .before) r (now (out .entry)) (now (out .exit)) (mergedLaid (now (s .entry)) next (now (merged .entry))) ⌝ }
 {
@@ -118,4 +107,21 @@ pub fn chunk_of_1024(
         &mut spare,
         out,
     )
+}
+
+// For more than 64 clusters. Its callers have tables of their own for fewer, and so no share in these tables' stack.
+pub fn long_chunk(
+    s: &[u8],
+    next: NextChunk,
+    spans: &[usize],
+    merged: &[u32],
+    out: &mut [u8],
+) -> Laid
+    requires { ⌜ MergedChunk (now s) next (now spans) (now merged) ⌝ }
+    ensures { λ r. ⌜ ChunkLaid (next .before) r (now (out .entry)) (now (out .exit)) (mergedLaid (now (s .entry)) next (now (merged .entry))) ⌝ }
+{
+    if few_clusters(s, spans, merged, 256) {
+        return chunk_of_256(s, next, spans, merged, out);
+    }
+    chunk_of_1024(s, next, spans, merged, out)
 }

@@ -65,6 +65,10 @@ pub const SPAN_LETTER_AT: usize = 9;
 
 pub const SPAN_WORD_AT: usize = 13;
 
+pub const SPAN_FIXED_AT: usize = 17;
+
+pub const SPAN_ADJUST_AT: usize = 22;
+
 // How many bytes a span has before its shift count, and where that and the shifts stand.
 pub const SPAN_HEAD_BYTES: usize = 26;
 

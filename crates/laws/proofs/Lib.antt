@@ -3,6 +3,7 @@ pub mod Numbers
 pub mod Records
 pub mod AnswerLength
 pub mod All
+pub mod Search
 pub mod Tests
 pub mod Outcomes
 pub mod Accepted

@@ -6,3 +6,4 @@ pub mod Shifted
 pub mod Merges
 pub mod Turns
 pub mod Spans
+pub mod Alone

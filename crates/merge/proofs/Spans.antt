@@ -51,13 +51,6 @@ pub span-first : (s : List ℕ) (parts : SpanParts) (rows : List ℕ) (count : �
 unfolding mergeSpan glyphsIn lookup.glyphsAt
 span-first s parts rows count e = rw e
 
--- a single span has nothing to be merged with
-pub single-span : (s spans : List ℕ) → length spans ≡ 1 → mergeGlyphs (partsIn s spans) ≡ given (partsOf (drop (getD spans 0 0) s) .glyphs)
-unfolding mergeGlyphs mergeSpan partsIn
-single-span s [] h = absurd (not-suc-le-zero {n = 0} (omega (arith, h)))
-single-span s (p ∷ []) h = refl
-single-span s (p ∷ q ∷ ps) h = absurd (not-suc-le-zero {n = 0} (omega (arith, h)))
-
 pub own-span : (bs : List ℕ) → spanOf bs ≡ partsOf bs .span
 unfolding partsOf
 own-span bs = refl

@@ -159,8 +159,9 @@ pub fn merge_span(
     merge_many(s, span, rows, marks, stamp, count, own)
 }
 
-// The spans one after the other. The marks are cleared once; a span's stamp is its number, from 1 on.
-fn merge_spans(s: &[u8], spans: &[usize], rows: &mut [u32; 1024]) -> Merge
+// The glyphs of the spans that stand at the places `spans`, merged span by span into one list: its rows are the first of `rows`. The marks are cleared
+// once; a span's stamp is its number, from 1 on.
+pub fn process_chunk(s: &[u8], spans: &[usize], rows: &mut [u32; 1024]) -> Merge
     requires { ⌜ Mergeable (now s) (now spans) (now rows) ⌝ }
     ensures { λ r. ⌜ (length (now (rows .exit)) ≡ 1024)
         × Held r
@@ -178,18 +179,4 @@ fn merge_spans(s: &[u8], spans: &[usize], rows: &mut [u32; 1024]) -> Merge
         i += 1;
     }
     Merge::Merged(count)
-}
-
-// The glyphs of the spans that stand at the places `spans`, merged into one list: its rows are the first of `rows`. A single span, as most
-// labels have, has nothing to be merged with.
-pub fn process_chunk(s: &[u8], spans: &[usize], rows: &mut [u32; 1024]) -> Merge
-    requires { ⌜ Mergeable (now s) (now spans) (now rows) ⌝ }
-    ensures { λ r. ⌜ (length (now (rows .exit)) ≡ 1024)
-        × Held r
-        × (mergedOf r (now (s .entry)) (now (rows .exit)) ≡ mergeGlyphs (partsIn (now (s .entry)) (now (spans .entry)))) ⌝ }
-{
-    if spans.len() == 1 {
-        return Merge::Merged(list_span(s, spans[0], rows));
-    }
-    merge_spans(s, spans, rows)
 }

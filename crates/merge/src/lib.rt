@@ -4,6 +4,7 @@ pub mod firsts;
 pub mod glyph;
 pub mod moves;
 pub mod search;
+pub mod source;
 pub mod step;
 
 // The merged list: the places of its glyph rows in the record, of which the first `count` are in use. Its owner lends `rows` to the merge.

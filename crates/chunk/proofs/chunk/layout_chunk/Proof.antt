@@ -1,184 +1,133 @@
--- `chunk::chunk::layout_chunk` meets its contract: its spans are found, and it is laid out as a short chunk or behind their merge. Assumes nothing.
+-- `chunk::chunk::layout_chunk` meets its contract: its spans are found, and it is laid out behind their merge, or with the glyphs of one. Assumes nothing.
 use Prim.Native.Nat.{ℕ, _≤_}
-use mathlib.Core.Path.{_≡_, sym, ap, _∙_}
-use mathlib.Core.List.{List, _++_}
+use mathlib.Core.Path.{_≡_}
+use mathlib.Core.List.{List}
 use native.Mathlib.Omega.{arith}
-use lib.ListN.{length, take, drop, replicate, getD}
-use Rattle.labels.specs.Decode.{glyphCount, partsOf}
+use lib.ListN.{length, take}
 use Rattle.forming.proofs.FewClusters.{few-clusters}
-use Rattle.chunk.specs.Checked.{SpannedChunk, MergedChunk}
-use Rattle.chunk.proofs.Spans.{lent-length, own-back, back-held, back-length, few-spans, first-within, places-of}
-use Rattle.chunk.proofs.Merging.{glyphs-counted, single-merged, merged-laid}
+use Rattle.chunk.specs.Checked.{SpannedChunk, OwnMerged, MergedChunk}
+use Rattle.chunk.proofs.Spans.{lent-length, shape-of, spanned-of}
+use Rattle.chunk.proofs.Merging.{own-within, own-alone, own-few, own-merged, merged-laid}
 use borrow.Author.Needs.{needs}
 use Rattle.chunk.proofs.chunk.layout_chunk.Statement.{statement}
 use Rattle.chunk.proofs.chunk.layout_chunk.Tie as tie
 
--- ---- from place to place
+slice-aggregate-find-spans : tie.Need-slice-aggregate-find-spans
+slice-aggregate-find-spans c = search needs
 
-abbrev start : tie.After-spans-at → tie.Start
-start c = c .before .before .before .before .before
+find-spans-requires : tie.Need-find-spans-requires
+find-spans-requires c κs = search needs
 
-abbrev counted : tie.After-span-places → tie.After-spans-at
-counted c = c .before .before .before
-
-abbrev found : tie.After-places3 → tie.After-span-places
-found c = c .before .before
-
-abbrev single : tie.After-glyph-count → tie.Else1
-single c = c .before .before .before
-
-abbrev short : tie.After-list-span → tie.Else2
-short c = c .before .before .before
-
-abbrev listed : tie.After-chunk-of-32-arg → tie.After-list-span
-listed c = c .before .before .before
+array-share-prefix-places : tie.Need-array-share-prefix-places
+array-share-prefix-places c = search needs
 
 -- ---- the spans
 
-from-requires : tie.Need-from-requires
-from-requires c κs = search needs
+module _ (c : tie.After-find-spans) where
+  abbrev start : tie.Start
+  start = c .before .before .before .before
 
-span-count-requires : tie.Need-span-count-requires
-span-count-requires c κs = search needs
-
-spans-at-requires : tie.Need-spans-at-requires
-spans-at-requires c κs = search needs
-
-add-first : tie.Need-add-first
-add-first c = search needs
-
-add-first-2 : tie.Need-add-first-2
-add-first-2 c = search needs
-
-few : (c : tie.After-spans-at) → c .before .span-count .result ≤ 32
-few c = few-spans (start c .pre) (c .before .before .from .ensures) (c .before .span-count .ensures .0)
-
-array-borrow-prefix-places : tie.Need-array-borrow-prefix-places
-array-borrow-prefix-places c = few (c .before)
-
-abbrev cleared : List ℕ
-cleared = replicate 32 0
-
-slice-aggregate-span-places : tie.Need-slice-aggregate-span-places
-slice-aggregate-span-places c = lent-length cleared (few (c .before .before))
-
-span-places-requires : tie.Need-span-places-requires
-span-places-requires c κs =
-    let count = c .before .before in
-    first-within (start count .pre) (count .before .before .from .ensures) (count .spans-at .ensures .0)
-
-module _ (c : tie.After-span-places) where
   abbrev s : List ℕ
-  s = start (counted c) .args .s .now
+  s = start .args .s .now
 
-  abbrev own : List ℕ
-  own = c .span-places .last .1 .1 .0
+  abbrev places : List ℕ
+  places = c .find-spans .last .1 .1 .0
 
   abbrev spans : List ℕ
-  spans =
-      let n = counted c .before .span-count .result in
-      take n (own ++ drop n cleared)
+  spans = take (c .find-spans .result) places
 
-  spanned : SpannedChunk s (start (counted c) .args .next) spans
-  spanned =
-      let count = counted c in
-      let put = c .span-places .ensures in
-      rw (own-back cleared own (few count) (put .1))
-      (places-of (start count .pre) (count .before .before .from .ensures) own (count .spans-at .ensures .0) (count .before .span-count .ensures .0)
-      (lent-length cleared (few count)) (put .1) (put .0))
+  many : c .find-spans .result ≡ length spans
+  many = lent-length places (omega (arith, c .find-spans .ensures .few, c .find-spans .kept .1 .1 .0))
 
--- the glyphs at these places are the merged ones
-abbrev Merges : tie.After-span-places → List ℕ → Type 0
-Merges c merged = MergedChunk (s c) (start (counted c) .args .next) (spans c) merged
+abbrev found : tie.After-glyph-span → tie.After-find-spans
+found c = c .before .before .before
 
-array-share-prefix-places : tie.Need-array-share-prefix-places
-array-share-prefix-places c = back-held cleared (own (c .before)) (few (counted (c .before))) (c .before .span-places .ensures .1)
+module _ (c : tie.After-find-spans) where
+  spanned : SpannedChunk (s c) (start c .args .next) (spans c)
+  spanned = spanned-of (start c .pre) (c .find-spans .ensures)
 
 slice-aggregate-spans : tie.Need-slice-aggregate-spans
-slice-aggregate-spans c =
-    let put = c .before .before in
-    back-length cleared (own put) (few (counted put)) (put .span-places .ensures .1)
+slice-aggregate-spans c = many (c .before .before)
+
+glyph-span-requires : tie.Need-glyph-span-requires
+glyph-span-requires c κs = search needs
+
+add-glyph-span : tie.Need-add-glyph-span
+add-glyph-span c = omega (arith, own-within (s (found c)) (spans (found c)) (c .glyph-span .ensures), many (found c), found c .find-spans .ensures .few)
+
+glyph-span-requires-2 : tie.Need-glyph-span-requires-2
+glyph-span-requires-2 c κs = search needs
 
 merged-chunk-requires : tie.Need-merged-chunk-requires
-merged-chunk-requires c κs = spanned (found (c .before .before))
+merged-chunk-requires c κs = spanned (found (c .before .before .before))
 
 same-length : tie.Need-same-length
 same-length c = search needs
 
 returns : tie.Need-returns
-returns c = c .before .before .merged-chunk .ensures
+returns c = search needs
 
--- ---- a single span
+-- ---- no second span has glyphs
 
-shared-slice-read-from : tie.Need-shared-slice-read-from
-shared-slice-read-from c = search needs
+module _ (c : tie.Else1) where
+  abbrev here : tie.After-find-spans
+  here = found (c .before .before)
 
-from-requires-2 : tie.Need-from-requires-2
-from-requires-2 c κs = search needs
+  alone : OwnMerged (s here) (spans here) (c .before .before .glyph-span .result)
+  alone = own-alone (s here) (spans here) (c .before .before .glyph-span .ensures) (c .before .glyph-span2 .ensures) (omega (arith, many here, c .if1 .left))
 
-glyph-count-requires : tie.Need-glyph-count-requires
-glyph-count-requires c κs = search needs
+own-count-requires : tie.Need-own-count-requires
+own-count-requires c κs = search needs
 
-merged-chunk-requires-2 : tie.Need-merged-chunk-requires-2
-merged-chunk-requires-2 c κs = spanned (found (single (c .before .before) .before))
+listed-chunk-requires : tie.Need-listed-chunk-requires
+listed-chunk-requires c κs =
+    let one = c .before .before .before in
+    (spanned (here one), alone one)
 
 same-length-2 : tie.Need-same-length-2
 same-length-2 c = search needs
 
 returns-2 : tie.Need-returns-2
-returns-2 c = c .before .before .merged-chunk2 .ensures
+returns-2 c = search needs
 
--- ---- of few glyphs
+slice-aggregate-list-own : tie.Need-slice-aggregate-list-own
+slice-aggregate-list-own c = search needs
 
-module _ (c : tie.Else2) where
-  abbrev only : tie.After-span-places
-  only = found (single (c .before) .before)
-
-  one : length (spans only) ≡ 1
-  one = omega (arith, single (c .before) .if1 .left, back-length cleared (own only) (few (counted only)) (only .span-places .ensures .1))
-
-  few-own : length (partsOf (drop (getD (spans only) 0 0) (s only)) .glyphs) ≤ 32
-  few-own =
-      let count = c .before in
-      let counted-is = glyphs-counted _ ∙ ap glyphCount (sym (count .before .from2 .ensures)) ∙ sym (count .glyph-count .ensures .0) in
-      omega (arith, counted-is, c .if2 .left)
-
-shared-slice-read-list-span : tie.Need-shared-slice-read-list-span
-shared-slice-read-list-span c = search needs
-
-slice-aggregate-list-span : tie.Need-slice-aggregate-list-span
-slice-aggregate-list-span c = search needs
-
-list-span-requires : tie.Need-list-span-requires
-list-span-requires c κs =
-    let here = c .before .before in
-    (omega (arith, spanned (only here) .checked .size), omega (arith, few-own here), few-own here)
-
-module _ (c : tie.After-list-span) where
-  abbrev rows : List ℕ
-  rows = c .list-span .last .1 .1 .0
-
-  few-rows : c .list-span .result ≤ 32
-  few-rows = omega (arith, c .list-span .ensures .1, few-own (short c))
-
-  held : c .list-span .result ≤ length rows
-  held = omega (arith, c .list-span .ensures .0, few-rows)
-
-  own-merged : Merges (only (short c)) (take (c .list-span .result) rows)
-  own-merged = single-merged (spanned (only (short c))) (one (short c)) rows few-rows (c .list-span .ensures .2)
+list-own-requires : tie.Need-list-own-requires
+list-own-requires c κs = search needs
 
 array-share-prefix-rows : tie.Need-array-share-prefix-rows
-array-share-prefix-rows c = held (c .before)
+array-share-prefix-rows c = search needs
+
+-- ---- and the one has few
+
+module _ (c : tie.After-list-own) where
+  abbrev short : tie.Else2
+  short = c .before .before
+
+  abbrev one : tie.Else1
+  one = short .before .before
+
+  abbrev rows : List ℕ
+  rows = c .list-own .last .1 .1 .1 .0
+
+  few-rows : c .list-own .result ≤ 32
+  few-rows = omega (arith, c .list-own .ensures .1, short .before .own-count .ensures, short .if2 .left)
+
+  held : c .list-own .result ≤ length rows
+  held = omega (arith, c .list-own .ensures .0, few-rows)
+
+  merged : MergedChunk (s (here one)) (start (here one) .args .next) (spans (here one)) (take (c .list-own .result) rows)
+  merged = own-merged (spanned (here one)) _ (alone one) rows (c .list-own .ensures .1) (c .list-own .ensures .2)
 
 slice-aggregate-chunk-of-32 : tie.Need-slice-aggregate-chunk-of-32
 slice-aggregate-chunk-of-32 c = lent-length (rows (c .before .before)) (held (c .before .before))
 
 chunk-of-32-requires : tie.Need-chunk-of-32-requires
 chunk-of-32-requires c κs =
-    let list = listed c in
-    let here = only (short list) in
-    let few-here = few-clusters (s here) (spans here) (take (list .list-span .result) (rows list)) in
-    (omega (arith, few-here, slice-aggregate-chunk-of-32 (c .before), few-rows list), own-merged list)
+    let list = c .before .before .before in
+    let at = here (one list) in
+    (omega (arith, few-clusters (s at) (spans at) (take (list .list-own .result) (rows list)), lent-length (rows list) (held list), few-rows list), merged list)
 
 same-length-3 : tie.Need-same-length-3
 same-length-3 c = search needs
@@ -186,34 +135,28 @@ same-length-3 c = search needs
 returns-3 : tie.Need-returns-3
 returns-3 c =
     let call = c .before .before in
-    merged-laid (own-merged (listed (call .before))) (call .chunk-of-32 .ensures)
+    merged-laid (merged (call .before .before .before .before)) (call .chunk-of-32 .ensures)
 
 pub layout-chunk-spec : {M : Type 1} → statement M
 layout-chunk-spec =
     tie.close
     (tie.spec
-    from-requires
-    span-count-requires
-    spans-at-requires
-    add-first
-    add-first-2
-    array-borrow-prefix-places
-    slice-aggregate-span-places
-    span-places-requires
+    slice-aggregate-find-spans
+    find-spans-requires
     array-share-prefix-places
     slice-aggregate-spans
+    glyph-span-requires
+    add-glyph-span
+    glyph-span-requires-2
     merged-chunk-requires
     same-length
     returns
-    shared-slice-read-from
-    from-requires-2
-    glyph-count-requires
-    merged-chunk-requires-2
+    own-count-requires
+    listed-chunk-requires
     same-length-2
     returns-2
-    shared-slice-read-list-span
-    slice-aggregate-list-span
-    list-span-requires
+    slice-aggregate-list-own
+    list-own-requires
     array-share-prefix-rows
     slice-aggregate-chunk-of-32
     chunk-of-32-requires

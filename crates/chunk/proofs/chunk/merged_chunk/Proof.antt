@@ -22,9 +22,6 @@ given c = c .before .before .before .before .before
 abbrev longer : tie.After-few-clusters → tie.After-glyphs
 longer c = c .before .before
 
-abbrev many : tie.After-few-clusters2 → tie.After-few-clusters
-many c = c .before .before
-
 process-chunk-requires : tie.Need-process-chunk-requires
 process-chunk-requires c κs =
     let p = c .before .before .before .before .pre in
@@ -91,13 +88,8 @@ returns-3 c =
     let call = c .before .before in
     merged-laid (merged (given (longer (call .before .before .before)))) (call .chunk-of-64 .ensures)
 
-few-clusters-requires-2 : tie.Need-few-clusters-requires-2
-few-clusters-requires-2 c κs = search needs
-
-chunk-of-256-requires : tie.Need-chunk-of-256-requires
-chunk-of-256-requires c κs =
-    let test = c .before .before in
-    (leb-true _ 256 (rw (← test .few-clusters2 .ensures) (c .before .if3 .taken)), merged (given (longer (many test))))
+long-chunk-requires : tie.Need-long-chunk-requires
+long-chunk-requires c κs = merged (given (longer (c .before .before)))
 
 same-length-3 : tie.Need-same-length-3
 same-length-3 c = search needs
@@ -105,20 +97,7 @@ same-length-3 c = search needs
 returns-4 : tie.Need-returns-4
 returns-4 c =
     let call = c .before .before in
-    merged-laid (merged (given (longer (many (call .before .before .before))))) (call .chunk-of-256 .ensures)
-
-chunk-of-1024-requires : tie.Need-chunk-of-1024-requires
-chunk-of-1024-requires c κs =
-    let merge = given (longer (many (c .before .before))) in
-    (omega (arith, few-clusters (a merge .args .s .now) (a merge .args .spans .now) (glyphs merge), merged merge .few), merged merge)
-
-same-length-4 : tie.Need-same-length-4
-same-length-4 c = search needs
-
-returns-5 : tie.Need-returns-5
-returns-5 c =
-    let call = c .before .before in
-    merged-laid (merged (given (longer (many (call .before .before .before))))) (call .chunk-of-1024 .ensures)
+    merged-laid (merged (given (longer (call .before .before .before)))) (call .long-chunk .ensures)
 
 pub merged-chunk-spec : {M : Type 1} → statement M
 merged-chunk-spec =
@@ -136,10 +115,6 @@ merged-chunk-spec =
     chunk-of-64-requires
     same-length-2
     returns-3
-    few-clusters-requires-2
-    chunk-of-256-requires
+    long-chunk-requires
     same-length-3
-    returns-4
-    chunk-of-1024-requires
-    same-length-4
-    returns-5)
+    returns-4)

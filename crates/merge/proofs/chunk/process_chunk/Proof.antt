@@ -1,43 +1,127 @@
--- `merge::chunk::process_chunk` meets its contract: a single span's own list, or the spans merged. Assumes nothing.
-use mathlib.Core.Path.{sym, _∙_, ap}
-use native.Mathlib.Omega.{arith}
+-- `merge::chunk::process_chunk` meets its contract. The loop's invariant: the spans left, merged into the list as it is, give the chunk's merge. Assumes nothing.
+use Prim.Native.Nat.{ℕ, _+_, _-_, _≤_}
+use mathlib.Core.Path.{_≡_}
+use mathlib.Core.List.{foldl}
+use lib.ListN.{length, drop, length-replicate}
 use Rattle.labels.specs.Outcome.{given}
-use Rattle.merge.specs.Merged.{mergedOf}
-use Rattle.merge.proofs.Spans.{few-here, single-span}
+use Rattle.labels.specs.Merge.{mergeSpan, mergeGlyphs}
+use Rattle.laws.proofs.All.{All}
+use Rattle.job_rows.specs.Rows.{partsIn}
+use Rattle.merge.specs.Merged.{glyphsIn, mergedOf, FewGlyphs}
+use Rattle.merge.specs.Steps.{Below}
+use Rattle.merge.proofs.Marks.{below-clear}
+use Rattle.merge.proofs.Spans.{spans-start, spans-on, spans-stop, spans-done, few-here, few-on}
 use borrow.Author.Needs.{needs}
+use native.Mathlib.Omega.{arith}
 use Rattle.merge.proofs.chunk.process_chunk.Statement.{statement}
 use Rattle.merge.proofs.chunk.process_chunk.Tie as tie
 
-shared-slice-read-list-span : tie.Need-shared-slice-read-list-span
-shared-slice-read-list-span c = search needs
+abbrev Inv-loop : tie.InvT-loop
+Inv-loop s spans rows₀ marks₀ count₀ i₀ rows marks count i =
+    (length rows ≡ 1024)
+    × (length marks ≡ 1024)
+    × Below (i + 1) marks
+    × (count ≤ 1024)
+    × (i ≤ length spans)
+    × All FewGlyphs (partsIn s (drop i spans))
+    × (foldl mergeSpan (given (glyphsIn s rows count)) (partsIn s (drop i spans)) ≡ mergeGlyphs (partsIn s spans))
 
-list-span-requires : tie.Need-list-span-requires
-list-span-requires c κs =
-    let start = c .before .before .before .before .before in
+abbrev μ-loop : tie.MeasureT-loop
+μ-loop s spans rows₀ marks₀ count₀ i₀ rows marks count i = length spans - i
+
+loop-holds : tie.Need-loop-holds Inv-loop μ-loop
+loop-holds c =
+    let start = c .before .before in
     let a = start .args in
-    let few = few-here (a .s .now) (a .spans .now) 0 (omega arith) (start .pre .own) in
-    (start .pre .size, few, omega (arith, few, start .pre .room))
+    (start .pre .room, length-replicate {A = ℕ} 1024 0, below-clear 1024, omega arith, omega arith, start .pre .own, spans-start (a .s .now) (a .rows .now) (partsIn (a .s .now) (a .spans .now)))
 
-returns : tie.Need-returns
+add-stamp : tie.Need-add-stamp Inv-loop μ-loop
+add-stamp c = search needs
+
+cast-stamp : tie.Need-cast-stamp Inv-loop μ-loop
+cast-stamp c = search needs
+
+mul-merge-span : tie.Need-mul-merge-span Inv-loop μ-loop
+mul-merge-span c = search needs
+
+shared-slice-read-merge-span : tie.Need-shared-slice-read-merge-span Inv-loop μ-loop
+shared-slice-read-merge-span c = search needs
+
+merge-span-requires : tie.Need-merge-span-requires Inv-loop μ-loop
+merge-span-requires c κs =
+    let loop = c .before .before .before .before in
+    let start = loop .before .before .before in
+    let a = start .args in
+    let l = loop .loop in
+    (start .pre .size, few-here (a .s .now) (a .spans .now) (l .i) (omega arith) (l .inv .5), record { row-room = l .inv .0; mark-room = l .inv .1; earlier = l .inv .2; few = l .inv .3 })
+
+enum-known-n : tie.Need-enum-known-n Inv-loop μ-loop
+enum-known-n c = search needs
+
+enum-known-k : tie.Need-enum-known-k Inv-loop μ-loop
+enum-known-k c = search needs
+
+returns : tie.Need-returns Inv-loop μ-loop
 unfolding mergedOf
 returns c =
-    let start = c .before .before .before .before .before .before in
-    let a = start .args in
-    let listed = c .list-span in
-    (listed .ensures .0 ∙ start .pre .room, rw (listed .ensures .1) (few-here (a .s .now) (a .spans .now) 0 (omega arith) (start .pre .own)), ap given (listed .ensures .2) ∙ sym (single-span (a .s .now) (a .spans .now) (omega arith)))
+    let did = c .before .before .before .merge-span in
+    let loop = c .before .before .before .before .before .before .before .before in
+    let a = loop .before .before .before .args in
+    let l = loop .loop in
+    let s = a .s .now in (
+      did .ensures .row-room,
+      rw (c .before .k .given .1) at (did .ensures .held),
+      spans-stop s (a .spans .now) (l .i) (given (glyphsIn s (l .rows) (l .count))) (mergeGlyphs (partsIn s (a .spans .now))) (l .inv .6) (c .before .k .given .0 .0) (omega arith)
+          (rw (c .before .k .given .1) at (did .ensures .is)),
+    )
 
-merge-spans-requires : tie.Need-merge-spans-requires
-merge-spans-requires c κs = search needs
+add-i : tie.Need-add-i Inv-loop μ-loop
+add-i c = search needs
 
-returns-2 : tie.Need-returns-2
-returns-2 c = search needs
+loop-less : tie.Need-loop-less Inv-loop μ-loop
+loop-less c = search needs
+
+loop-again : tie.Need-loop-again Inv-loop μ-loop
+unfolding mergedOf
+loop-again c =
+    let did = c .before .before .before .merge-span in
+    let loop = c .before .before .before .before .before .before .before .before in
+    let a = loop .before .before .before .args in
+    let l = loop .loop in
+    let s = a .s .now in (
+      did .ensures .row-room,
+      did .ensures .mark-room,
+      did .ensures .below,
+      rw (c .before .n .given .1) at (did .ensures .held),
+      omega arith,
+      few-on s (a .spans .now) (l .i) (omega arith) (l .inv .5),
+      spans-on s (a .spans .now) (l .i) (given (glyphsIn s (l .rows) (l .count))) (mergeGlyphs (partsIn s (a .spans .now))) (l .inv .6) _ (omega arith) (rw (c .before .n .given .1) at (did .ensures .is)),
+    )
+
+returns-2 : tie.Need-returns-2 Inv-loop μ-loop
+unfolding mergedOf
+returns-2 c =
+    let a = c .before .before .before .before .args in
+    let l = c .before .loop in
+    let s = a .s .now in
+    (l .inv .0, l .inv .3, spans-done s (a .spans .now) (l .i) (given (glyphsIn s (l .rows) (l .count))) (mergeGlyphs (partsIn s (a .spans .now))) (l .inv .6) (omega arith))
 
 pub process-chunk-spec : {M : Type 1} → statement M
 process-chunk-spec =
     tie.close
     (tie.spec
-    shared-slice-read-list-span
-    list-span-requires
+    Inv-loop
+    μ-loop
+    loop-holds
+    add-stamp
+    cast-stamp
+    mul-merge-span
+    shared-slice-read-merge-span
+    merge-span-requires
+    enum-known-n
+    enum-known-k
     returns
-    merge-spans-requires
+    add-i
+    loop-less
+    loop-again
     returns-2)

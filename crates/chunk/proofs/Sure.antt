@@ -1,0 +1,74 @@
+-- A settled chunk is laid out, whatever came before it. Assumes nothing.
+use Prim.Native.Nat.{ℕ, _+_, _≤_, _<_}
+use mathlib.Core.Path.{_≡_, refl, sym, ap, _∙_}
+use mathlib.Core.Bool.{Bool, true, false, cond, not, _&&_, _||_}
+use mathlib.Core.List.{List, [], _∷_, foldl}
+use native.Mathlib.Omega.{arith}
+use borrow.Author.Tests.{le-leb, lt-leb, leb-true}
+use lib.ListN.{length}
+use lib.Dec.{leb, eqb}
+use Rattle.laws.proofs.All.{and-left, and-right}
+use Rattle.laws.proofs.Tests.{failed}
+use Rattle.labels.specs.Outcome.{Outcome, given, andThen}
+use Rattle.labels.specs.Lists.{any}
+use Rattle.labels.specs.declared.Span.{Span}
+use Rattle.labels.specs.declared.Cluster.{Cluster}
+use Rattle.labels.specs.Job.{Job, Chunk, SpanParts, spansOf, hasLength, adjustSpacingAndGlyphs}
+use Rattle.labels.specs.Spacing.{applyWordSpacing}
+use Rattle.labels.specs.Cluster.{rounded, adjustSpan, applyLengthAdjust}
+use Rattle.labels.specs.Layout.{Progress, collapsedClusters, adjustedClusters, placeChunk, layoutChunk}
+use Rattle.job_rows.specs.Rows.{spansIn, partsIn}
+use Rattle.merge.specs.Source.{glyphSpan, spanGlyphs}
+use Rattle.merge.proofs.Alone.{parts-length, alone-merged}
+use Rattle.chunk.proofs.Checked.{spans-of}
+use Rattle.chunk.specs.Settled.{stretches, settled}
+
+either-false : (a b : Bool) → (a || b) ≡ false → (a ≡ false) × (b ≡ false)
+either-false false b h = (refl, h)
+either-false true b h = let z : _≡_ {A = ℕ} 0 1 = cc h in absurd (omega arith)
+
+-- a span that is not stretched is not refused
+plain-given : (s : Span) (cs : List Cluster) → stretches s ≡ false → (ds : List Cluster) × (adjustSpan (given cs) s ≡ given ds)
+unfolding adjustSpan
+plain-given s cs h = go (hasLength s) (eqb (s .adjust) adjustSpacingAndGlyphs) _ _ h
+  where
+    go : (a b : Bool) (o : Outcome (List Cluster)) (own : List Cluster) → (a && b) ≡ false
+        → (ds : List Cluster) × (cond a (cond b o (given own)) (given cs) ≡ given ds)
+    go false b o own h = (cs, refl)
+    go true false o own h = (own, refl)
+    go true true o own h = let z : _≡_ {A = ℕ} 0 1 = cc h in absurd (omega arith)
+
+plain-adjusted : (ss : List Span) (cs : List Cluster) → any stretches ss ≡ false → (ds : List Cluster) × (foldl adjustSpan (given cs) ss ≡ given ds)
+unfolding any
+plain-adjusted [] cs h = (cs, refl)
+plain-adjusted (s ∷ ss) cs h =
+    let each = either-false (stretches s) (any stretches ss) h in
+    let one = plain-given s cs (each .0) in
+    let others = plain-adjusted ss (one .0) (each .1) in
+    (others .0, rw (one .1) (others .1))
+
+pub settled-laid : (job : Job) (st : Progress) (c : Chunk) → settled c ≡ true → (next : Progress) × (layoutChunk job (given st) c ≡ given next)
+unfolding settled layoutChunk andThen adjustedClusters applyLengthAdjust
+settled-laid job st c h =
+    let alone = leb (length (c .parts)) (glyphSpan (c .parts) (glyphSpan (c .parts) 0 + 1)) in
+    let plain = not (any stretches (spansOf c)) in
+    let merged = alone-merged (c .parts) (leb-true (length (c .parts)) _ (and-left alone plain h)) in
+    let gs = spanGlyphs (c .parts) (glyphSpan (c .parts) 0) in
+    let adjusted = plain-adjusted (spansOf c) (applyWordSpacing rounded (c .text) (spansOf c) (collapsedClusters job c gs)) (failed refl (and-right alone plain h)) in
+    (placeChunk job st c gs (adjusted .0), rw (merged, adjusted .1) refl)
+
+-- ---- as the code finds it: `own` is the first span that has glyphs, and `other` the next behind it
+
+module _ (s spans : List ℕ) (c : Chunk) (parts : partsIn s spans ≡ c .parts) {own other : ℕ} (e : own ≡ glyphSpan (partsIn s spans) 0)
+    (f : other ≡ glyphSpan (partsIn s spans) (own + 1)) where
+  pub unsettled : other < length spans → false ≡ settled c
+  unfolding settled
+  unsettled h =
+      let less = lt-leb (length (partsIn s spans)) (glyphSpan (partsIn s spans) (glyphSpan (partsIn s spans) 0 + 1)) (rw (← rw e at f, parts-length s spans) h) in
+      rw (← parts, less) refl
+
+  pub settled-is : length spans ≤ other → {r : Bool} → r ≡ any stretches (spansIn s spans) → not r ≡ settled c
+  unfolding settled
+  settled-is h r-is =
+      let few = le-leb (length (partsIn s spans)) (glyphSpan (partsIn s spans) (glyphSpan (partsIn s spans) 0 + 1)) (rw (← rw e at f, parts-length s spans) h) in
+      rw (← spans-of s spans c parts, ← r-is, ← parts, few) refl
