@@ -114,7 +114,7 @@ module _ {s : List ℕ} {job : Job} (k : CheckedJob s job) {at left : ℕ} (at-i
 
 -- ---- a turn
 
-each-turn : (size : List ℕ → ℕ) (ok : List ℕ → Bool) (n : ℕ) (bs : List ℕ) → 0 < n → T (each size ok n bs) → T (ok bs) × T (each size ok (n - 1) (drop (size bs) bs))
+pub each-turn : (size : List ℕ → ℕ) (ok : List ℕ → Bool) (n : ℕ) (bs : List ℕ) → 0 < n → T (each size ok n bs) → T (ok bs) × T (each size ok (n - 1) (drop (size bs) bs))
 unfolding each
 each-turn size ok zero bs h t = absurd (not-suc-le-zero h)
 each-turn size ok (suc n) bs h t =

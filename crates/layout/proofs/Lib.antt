@@ -5,4 +5,5 @@ pub mod Single
 pub mod Copied
 pub mod Accepting
 pub mod Answering
+pub mod Straight
 pub mod Promised

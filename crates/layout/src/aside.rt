@@ -1,6 +1,8 @@
 // The rows of a job's chunks. Nothing may be written into the answer before it is known that no chunk is refused and that the whole answer fits. A
-// single chunk keeps to that by itself, and is put at once. Several are laid out aside, and their rows are copied. Short labels are the usual ones:
-// only an answer that is longer than the buffer aside is laid out a second time, straight into its place. So no memory grows with the chunks.
+// single chunk keeps to that by itself, and is put at once. So are several, if each is sure to be laid out and the longest answer that the job can
+// have fits. Any others are laid out aside, and their rows are copied; only an answer that is longer than the buffer aside is laid out a second time,
+// straight into its place. So no memory grows with the chunks.
+use crate::chunks::all_settled;
 use crate::chunks::beginning;
 use crate::chunks::count_of;
 use crate::chunks::lay_chunks;
@@ -11,14 +13,16 @@ use chunk::progress::NextChunk;
 use job_rows::sizes::CHUNK_COUNT_BYTES;
 use labels::Job;
 ghost use mathlib.Core.Path.{_≡_};
-ghost use Prim.Native.Nat.{_+_, _≤_};
+ghost use Prim.Native.Nat.{_+_, _*_, _≤_};
 ghost use lib.ListN.{length};
+ghost use lib.Dec.{ltb};
+ghost use Rattle.labels.specs.Job.{limits};
 ghost use Rattle.wire.specs.Splice.{splice};
 ghost use Rattle.layout.specs.Steps.{jobLaid, RowsPut};
 ghost use Rattle.layout.specs.Checked.{CheckedJob};
 
 // The bytes of the buffer aside.
-const ASIDE: usize = 16_384;
+const ASIDE: usize = 8_192;
 
 // `bytes` at `at`.
 fn put_bytes(out: &mut [u8], at: usize, bytes: &[u8])
@@ -32,15 +36,11 @@ fn put_bytes(out: &mut [u8], at: usize, bytes: &[u8])
     }
 }
 
-pub fn put_chunks(s: &[u8], job: Job, answer: &mut [u8]) -> Laid
+// Several chunks, laid out aside: as `put_chunks`.
+fn put_aside(s: &[u8], job: Job, answer: &mut [u8]) -> Laid
     requires { ⌜ CheckedJob (now s) job ⌝ }
     ensures { λ r. ⌜ RowsPut (jobLaid (now (s .entry)) job) r (now (answer .entry)) (now (answer .exit)) ⌝ }
 {
-    if count_of(s, job) == 1 {
-        let at = job.chunks + CHUNK_COUNT_BYTES;
-        let before = beginning();
-        return layout_chunk(s, NextChunk { job, at, before }, answer);
-    }
     let mut aside = [0; ASIDE];
     match lay_chunks(s, job, &mut aside) {
         Laid::Refused(number) => Laid::Refused(number),
@@ -56,4 +56,29 @@ pub fn put_chunks(s: &[u8], job: Job, answer: &mut [u8]) -> Laid
             Laid::Going(end)
         }
     }
+}
+
+// Whether a buffer of so many bytes has room for any answer to a job of so many: an answer has at most 64 / 25 of its job's bytes.
+fn has_room(job: usize, answer: usize) -> bool
+    requires { ⌜ job ≤ limits .bytes ⌝ }
+    ensures { λ r. ⌜ r ≡ ltb (64 * job) (answer * 25) ⌝ }
+{
+    64 * job / 25 < answer
+}
+
+pub fn put_chunks(s: &[u8], job: Job, answer: &mut [u8]) -> Laid
+    requires { ⌜ CheckedJob (now s) job ⌝ }
+    ensures { λ r. ⌜ RowsPut (jobLaid (now (s .entry)) job) r (now (answer .entry)) (now (answer .exit)) ⌝ }
+{
+    if count_of(s, job) == 1 {
+        let at = job.chunks + CHUNK_COUNT_BYTES;
+        let before = beginning();
+        return layout_chunk(s, NextChunk { job, at, before }, answer);
+    }
+    if has_room(s.len(), answer.len()) {
+        if all_settled(s, job) {
+            return lay_chunks(s, job, answer);
+        }
+    }
+    put_aside(s, job, answer)
 }

@@ -1,27 +1,16 @@
--- `layout::aside::put_chunks` meets its contract. Assumes nothing.
-use Prim.Native.Nat.{ℕ}
-use mathlib.Core.Path.{_≡_, sym, _∙_}
-use mathlib.Core.List.{List}
+-- `layout::aside::put_chunks` meets its contract: one chunk by itself, settled ones straight, any others aside. Assumes nothing.
+use mathlib.Core.Path.{sym, _∙_}
 use native.Mathlib.Omega.{arith}
-use lib.ListN.{length, replicate, length-take, length-drop}
-use Rattle.labels.specs.Outcome.{Outcome, given}
-use Rattle.labels.specs.Answer.{answerHeadSize}
-use Rattle.labels.specs.Layout.{Progress}
-use Rattle.chunk.specs.declared.progress.Progress as chunk
-use Rattle.chunk.specs.declared.progress.Laid.the-variants.{Going}
-use Rattle.chunk.specs.Steps.{progressFrom, laidFrom}
-use Rattle.layout.specs.Steps.{jobLaid}
+use lib.ListN.{length}
+use borrow.Author.Tests.{ltb-true}
 use Rattle.layout.proofs.Single.{single-checked, single-laid}
-use Rattle.layout.proofs.Outcomes.{refused-of, given-of}
-use Rattle.layout.proofs.Copied.{answerLength, end-length, refused-unput, longer-unput, fits-of, rows-copied}
+use Rattle.layout.proofs.Straight.{straight-fits}
 use borrow.Author.Needs.{needs}
 use Rattle.layout.proofs.aside.put_chunks.Statement.{statement}
 use Rattle.layout.proofs.aside.put_chunks.Tie as tie
 
 abbrev start : tie.After-count-of → tie.Start
 start c = c .before .before .before
-
--- ---- a single chunk
 
 abbrev single : tie.After-beginning → tie.Then1
 single c = c .before .before
@@ -30,7 +19,7 @@ count-of-requires : tie.Need-count-of-requires
 count-of-requires c κs = search needs
 
 add-at : tie.Need-add-at
-add-at c = let given = start (c .before .before) .pre in omega (arith, given .begins, given .size)
+add-at c = search needs
 
 beginning-requires : tie.Need-beginning-requires
 beginning-requires c κs = search needs
@@ -50,106 +39,38 @@ returns c =
     let one = single begun in
     single-laid (start (one .before) .pre) (sym (one .before .count-of .ensures .0) ∙ one .if1 .taken) (begun .beginning .ensures) (put .layout-chunk .ensures)
 
--- ---- several: they are laid out aside
+has-room-requires : tie.Need-has-room-requires
+has-room-requires c κs = search needs
 
-abbrev counted : tie.After-lay-chunks → tie.After-count-of
-counted c = c .before .before .before
-
-abbrev whole : tie.After-lay-chunks → Outcome Progress
-whole c = jobLaid (start (counted c) .args .s .now) (start (counted c) .args .job)
-
-abbrev old : tie.After-lay-chunks → List ℕ
-old c = start (counted c) .args .answer .now
-
-abbrev laid : tie.After-end → tie.After-lay-chunks
-laid c = c .before .before .before
-
--- ---- no chunk is refused
-
-module _ (c : tie.After-end) where
-  abbrev end : chunk.Progress
-  end = c .end .given .0 .0
-
-  going : Going end ≡ laidFrom answerHeadSize (whole (laid c))
-  going = sym (c .end .given .1) ∙ laid c .lay-chunks .ensures .0
-
-  is : (st : Progress) × (whole (laid c) ≡ given st) × (end ≡ progressFrom answerHeadSize st)
-  is = given-of answerHeadSize (whole (laid c)) end going
-
-  long : end .length ≡ answerLength (is .0)
-  long = end-length (is .0) (is .2)
-
-slice-aggregate-lay-chunks : tie.Need-slice-aggregate-lay-chunks
-slice-aggregate-lay-chunks c = search needs
+all-settled-requires : tie.Need-all-settled-requires
+all-settled-requires c κs = search needs
 
 lay-chunks-requires : tie.Need-lay-chunks-requires
 lay-chunks-requires c κs = search needs
 
-enum-known-number : tie.Need-enum-known-number
-enum-known-number c = search needs
-
-enum-known-end : tie.Need-enum-known-end
-enum-known-end c = search needs
-
-returns-2 : tie.Need-returns-2
-returns-2 c =
-    let behind = c .before .before in
-    record {
-      laid = going behind;
-      buffer = sym (longer-unput (whole (laid behind)) (is behind .0) (is behind .1) (old (laid behind)) (omega (arith, long behind, c .if2 .taken)));
-    }
-
-lay-chunks-requires-2 : tie.Need-lay-chunks-requires-2
-lay-chunks-requires-2 c κs = search needs
-
 same-length-2 : tie.Need-same-length-2
 same-length-2 c = search needs
 
-returns-3 : tie.Need-returns-3
-returns-3 c =
-    let room = c .before .before .before .before .before in
-    let behind = room .before .before in
-    let again = c .before .before .lay-chunks2 .ensures in
-    let fits = fits-of (whole (laid behind)) (is behind .0) (is behind .1) (length (old (laid behind))) (omega (arith, long behind, room .if2 .left)) in
-    record { laid = again .0; buffer = again .1 fits }
+returns-2 : tie.Need-returns-2
+returns-2 c =
+    let put = c .before .before in
+    let sure = put .before .before in
+    let asked = sure .before in
+    let roomy = asked .before in
+    let tested = roomy .before in
+    let a = start (tested .before .before) in
+    let room = ltb-true _ _ (sym (tested .has-room .ensures) ∙ roomy .if2 .taken) in
+    let fits = straight-fits (a .pre) (sym (asked .all-settled .ensures) ∙ sure .if3 .taken) (length (a .args .answer .now)) room in
+    record { laid = put .lay-chunks .ensures .0; buffer = put .lay-chunks .ensures .1 fits }
 
-sub-put-bytes : tie.Need-sub-put-bytes
-sub-put-bytes c = omega (arith, long (c .before .before .before .before))
-
-part-put-bytes-start : tie.Need-part-put-bytes-start
-part-put-bytes-start c = omega (arith, long (c .before .before .before .before .before))
-
-part-put-bytes-end : tie.Need-part-put-bytes-end
-part-put-bytes-end c = search needs
-
-put-bytes-requires : tie.Need-put-bytes-requires
-put-bytes-requires c κs =
-    let room = c .before .before .before .before in
-    simp (length-take, length-drop) (omega (arith, long (room .before .before), room .if2 .left))
-
-returns-4 : tie.Need-returns-4
-returns-4 c =
-    let lay = c .before .before .before .before in
-    let told = c .before .number .given in
-    let refused = sym (told .1) ∙ lay .lay-chunks .ensures .0 in
-    record { laid = refused; buffer = sym (refused-unput (whole lay) (old lay) (told .0 .0) (refused-of answerHeadSize (whole lay) (told .0 .0) refused)) }
+put-aside-requires : tie.Need-put-aside-requires
+put-aside-requires c κs = search needs
 
 same-length-3 : tie.Need-same-length-3
 same-length-3 c = search needs
 
-returns-5 : tie.Need-returns-5
-returns-5 c =
-    let inside = c .before .before .before .before .before .before in
-    let room = inside .before in
-    let behind = room .before .before in
-    let lay = laid behind in
-    let blank : List ℕ = replicate 16_384 0 in
-    let fits = fits-of (whole lay) (is behind .0) (is behind .1) (length blank) (omega (arith, long behind, inside .if3 .left)) in
-    record {
-      laid = going behind;
-      buffer = rows-copied (whole lay) (is behind .0) (is behind .1) (end behind .length) blank (old lay) (long behind) (omega (arith, inside .if3 .left)) (omega (arith, room .if2 .left))
-          (lay .lay-chunks .ensures .1 fits) (c .before .before .put-bytes .ensures);
-    }
+returns-3 : tie.Need-returns-3
+returns-3 c = search needs
 
 pub put-chunks-spec : {M : Type 1} → statement M
 put-chunks-spec =
@@ -161,18 +82,11 @@ put-chunks-spec =
     layout-chunk-requires
     same-length
     returns
-    slice-aggregate-lay-chunks
+    has-room-requires
+    all-settled-requires
     lay-chunks-requires
-    enum-known-number
-    enum-known-end
-    returns-2
-    lay-chunks-requires-2
     same-length-2
-    returns-3
-    sub-put-bytes
-    part-put-bytes-start
-    part-put-bytes-end
-    put-bytes-requires
-    returns-4
+    returns-2
+    put-aside-requires
     same-length-3
-    returns-5)
+    returns-3)

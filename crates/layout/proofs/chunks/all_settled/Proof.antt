@@ -1,0 +1,88 @@
+-- `layout::chunks::all_settled` meets its contract. Assumes nothing.
+use Prim.Native.Nat.{ℕ, _+_}
+use mathlib.Core.Path.{_≡_, refl, sym, ap, _∙_}
+use native.Mathlib.Omega.{arith}
+use Rattle.laws.proofs.Tests.{failed, passed}
+use Rattle.labels.specs.Lists.{all}
+use Rattle.labels.specs.Decode.{chunkSize}
+use Rattle.chunk.specs.Settled.{settled}
+use Rattle.layout.proofs.ChunksLeft.{chunksLeft}
+use Rattle.layout.proofs.Straight.{Asking, asked-chunk, asked-no, asked-on, asked-all}
+use borrow.Author.Needs.{needs}
+use Rattle.layout.proofs.chunks.all_settled.Statement.{statement}
+use Rattle.layout.proofs.chunks.all_settled.Tie as tie
+
+abbrev Inv-loop : tie.InvT-loop
+Inv-loop s at₀ left₀ at left = Asking s at₀ left₀ at left
+
+abbrev μ-loop : tie.MeasureT-loop
+μ-loop s at₀ left₀ at left = left
+
+add-at : tie.Need-add-at Inv-loop μ-loop
+add-at c = let k = c .before .before .pre in omega (arith, k .begins, k .size)
+
+count-of-requires : tie.Need-count-of-requires Inv-loop μ-loop
+count-of-requires c κs = search needs
+
+loop-holds : tie.Need-loop-holds Inv-loop μ-loop
+loop-holds c =
+    let k = c .before .before .before .pre in
+    record { begins = k .begins; fits = rw (c .count-of .ensures .0) (k .fits); same = refl }
+
+is-settled-requires : tie.Need-is-settled-requires Inv-loop μ-loop
+is-settled-requires c κs = asked-chunk _ (c .before .loop .inv) (omega arith) _ (c .before .before .before .before .before .pre)
+
+returns : tie.Need-returns Inv-loop μ-loop
+returns c =
+    let asked = c .before in
+    let turn = asked .before .before in
+    let start = turn .before .before .before .before in
+    let none = asked-no _ (turn .loop .inv) (omega arith) (failed (asked .is-settled .ensures) (c .if1 .taken)) in
+    none ∙ ap (all settled) (ap (λ (n : ℕ). chunksLeft (start .args .s .now) (start .args .job .chunks + 1) n) (turn .before .count-of .ensures .0))
+
+from-requires : tie.Need-from-requires Inv-loop μ-loop
+from-requires c κs = search needs
+
+chunk-size-requires : tie.Need-chunk-size-requires Inv-loop μ-loop
+chunk-size-requires c κs = search needs
+
+after-requires : tie.Need-after-requires Inv-loop μ-loop
+after-requires c κs = search needs
+
+sub-left : tie.Need-sub-left Inv-loop μ-loop
+sub-left c = search needs
+
+loop-less : tie.Need-loop-less Inv-loop μ-loop
+loop-less c = search needs
+
+loop-again : tie.Need-loop-again Inv-loop μ-loop
+loop-again c =
+    let l = c .before .before .before .before .before .before .loop in
+    let k = c .before .chunk-size in
+    asked-on _ (l .inv) (omega arith) (passed (c .before .before .before .before .is-settled .ensures) (c .before .before .before .if1 .left)) (k .result) (c .after .result) (k .ensures .0 ∙ ap chunkSize (c .before .before .from .ensures)) (c .after .ensures)
+
+returns-2 : tie.Need-returns-2 Inv-loop μ-loop
+returns-2 c =
+    let turn = c .before in
+    let start = turn .before .before .before .before in
+    asked-all _ (turn .loop .inv) (c .loop-test .left)
+    ∙ ap (all settled) (ap (λ (n : ℕ). chunksLeft (start .args .s .now) (start .args .job .chunks + 1) n) (turn .before .count-of .ensures .0))
+
+pub all-settled-spec : {M : Type 1} → statement M
+all-settled-spec =
+    tie.close
+    (tie.spec
+    Inv-loop
+    μ-loop
+    add-at
+    count-of-requires
+    loop-holds
+    is-settled-requires
+    returns
+    from-requires
+    chunk-size-requires
+    after-requires
+    sub-left
+    loop-less
+    loop-again
+    returns-2)
