@@ -28,3 +28,4 @@ pub mod RowSize
 pub mod AnswerBound
 pub mod NeverTooShort
 pub mod Characters
+pub mod Unmoved
