@@ -29,3 +29,4 @@ pub mod AnswerBound
 pub mod NeverTooShort
 pub mod Characters
 pub mod Unmoved
+pub mod StillJob
