@@ -5,3 +5,4 @@ pub mod Sure
 pub mod Adjusted
 pub mod Placed
 pub mod RowLength
+pub mod Still

@@ -2,6 +2,7 @@
 pub mod chunk;
 mod find;
 mod pen;
+mod place;
 pub mod progress;
 pub mod settled;
 mod steps;

@@ -1,6 +1,7 @@
 // The steps of document 01, one after the other, on tables that have rows for all clusters.
 use crate::pen::origin_of;
 use crate::pen::pen_after;
+use crate::place::place_clusters;
 use crate::progress::Laid;
 use crate::progress::NextChunk;
 use crate::progress::Progress;
@@ -8,17 +9,14 @@ use answer::chunk::Frame;
 use answer::chunk::write_chunk_row;
 use answer::chunk::write_empty_row;
 use forming::chunk::form_clusters;
-use job_rows::rows::anchor_at;
 use job_rows::sizes::text_of;
 use labels::Point;
 use length_adjust::Adjusted;
 use length_adjust::apply_length_adjust;
-use position::line::resolve_clusters_positions_horizontal;
 use spacing::letter::apply_letter_spacing;
 use spacing::mode::apply_writing_mode;
 use spacing::word::apply_word_spacing;
 use text_order::character_count;
-use text_order::character_numbers;
 use text_order::logical_order;
 use wire::place::from;
 ghost use mathlib.Core.Path.{_≡_};
@@ -81,17 +79,7 @@ pub fn layout_merged(
         let row = write_empty_row(out, before.length, before.pen);
         return Laid::Going(progress_behind(before, text, before.pen, 0.0, row));
     }
-    character_numbers(text, before.offset, words, n, order, spare);
-    let placed = resolve_clusters_positions_horizontal(
-        s,
-        job,
-        anchor_at(s, next.at),
-        order,
-        spare,
-        floats,
-        words,
-        n,
-    );
+    let placed = place_clusters(s, next, text, order, spare, floats, words, n);
     let origin = origin_of(before.pen, s, next.at);
     let pen = pen_after(job.mode, origin, placed.end_x, placed.end_y);
     let frame = Frame { origin, pen };

@@ -1,13 +1,13 @@
 -- `chunk::steps::layout_merged` meets its contract: step by step, each from what the ones before it gave. Assumes nothing.
 use Prim.Native.Nat.{ℕ, _≤_, _<_}
 use mathlib.Core.Path.{_≡_, refl, sym, ap, subst, _∙_}
-use mathlib.Core.List.{List, map}
+use mathlib.Core.List.{List}
 use native.Mathlib.Omega.{arith}
 use lib.ListN.{length, take}
 use lib.Seq.{length-take-le}
+use Rattle.laws.proofs.Unmoved.{adjusted-unmoved}
 use Rattle.labels.specs.Outcome.{given}
 use Rattle.labels.specs.Decode.{chunkOf}
-use Rattle.labels.specs.Position.{characterNumber}
 use Rattle.labels.specs.Answer.{ChunkRow, chunkRowBytes}
 use Rattle.labels.specs.Layout.{adjustedClusters}
 use Rattle.job_rows.specs.Rows.{glyphsAt}
@@ -23,7 +23,7 @@ use Rattle.chunk.specs.Checked.{TablesFor}
 use Rattle.chunk.proofs.Checked.{few-bytes, widths-ok, units-ok}
 use Rattle.chunk.proofs.Adjusted.{adjusted-is, letter-rows, done-kept, done-given, told-refused}
 use Rattle.decoration.proofs.Walks.{cut-tables, cut-clusters}
-use Rattle.chunk.proofs.Placed.{chunkPlaced, OneRow, anchor-is, none-of, one-bytes, one-laid, refused-merged, empty-row, clusters-row}
+use Rattle.chunk.proofs.Placed.{chunkPlaced, OneRow, none-of, one-bytes, one-laid, refused-merged, empty-row, clusters-row}
 use Rattle.chunk.proofs.RowLength.{placed-short}
 use borrow.Author.Needs.{needs}
 use Rattle.chunk.proofs.steps.layout_merged.Statement.{statement}
@@ -61,14 +61,11 @@ done c = c .before .before .before .before .before .before
 abbrev empty : tie.After-write-empty-row → tie.After-enum-told
 empty c = c .before .before .before
 
-abbrev some : tie.After-character-numbers → tie.Else1
-some c = c .before .before .before .before
+abbrev some : tie.After-place-clusters → tie.Else1
+some c = c .before .before .before .before .before
 
-abbrev numbered : tie.After-resolve-clusters-positions-horizontal → tie.After-character-numbers
-numbered c = c .before .before .before .before .before .before .before .before
-
-abbrev placed : tie.After-pen-after → tie.After-resolve-clusters-positions-horizontal
-placed c = c .before .before .before .before
+abbrev placed : tie.After-pen-after → tie.After-place-clusters
+placed c = c .before .before .before .before .before .before
 
 abbrev penned : tie.After-write-chunk-row → tie.After-pen-after
 penned c = c .before .before .before .before
@@ -244,8 +241,8 @@ module _ (c : tie.After-enum-told) where
   given-is = done-given _ _ (told (done c)) (c .enum-told .given .1)
 
   -- in text order still
-  still : Ordered (ordered (done c) .logical-order .last .1 .1 .0) (done c .apply-length-adjust .last .1 .1 .1 .1 .1 .0) (form (done c) .form-clusters .result)
-  still =
+  kept-order : Ordered (ordered (done c) .logical-order .last .1 .1 .0) (done c .apply-length-adjust .last .1 .1 .1 .1 .1 .0) (form (done c) .form-clusters .result)
+  kept-order =
       let adjust = done c in
       let fit = fits (form adjust) in
       let order = in-order (ordered adjust) in
@@ -299,29 +296,22 @@ returns-2 c =
 
 -- ---- step 7
 
-character-numbers-requires : tie.Need-character-numbers-requires
-character-numbers-requires c κs =
-    let adjusted = c .before .before .before .before in
+place-clusters-requires : tie.Need-place-clusters-requires
+place-clusters-requires c κs =
+    let more = c .before .before .before .before in
+    let adjusted = more .before in
     let adjust = done adjusted in
     let text = begun (form adjust) in
-    (omega (arith, text-short text, start text .pre .0 .spanned .checked .offset), omega (arith, adjusted-spare adjust, fits (form adjust) .spared), still adjusted)
-
-anchor-at-requires : tie.Need-anchor-at-requires
-anchor-at-requires c κs = search needs
-
-resolve-clusters-positions-horizontal-requires : tie.Need-resolve-clusters-positions-horizontal-requires
-resolve-clusters-positions-horizontal-requires c κs =
-    let numbers = c .before .before .before .before .before .before .before in
-    let adjusted = some numbers .before in
-    let adjust = done adjusted in
-    let fit = fits (form adjust) in (
-      record {
-        some = omega (arith, some numbers .if1 .left);
-        rows = omega (arith, adjusted-floats adjust, fit .floatRows);
-        numbered = omega (arith, adjusted-spare adjust, fit .spared, numbers .character-numbers .kept .1 .1 .1 .1 .1 .0);
-      },
-      still adjusted,
-    )
+    let fit = fits (form adjust) in
+    record {
+      own = text-is text;
+      short = omega (arith, text-short text, start text .pre .0 .spanned .checked .offset);
+      some = omega (arith, more .if1 .left);
+      rows = omega (arith, adjusted-floats adjust, fit .floatRows);
+      spared = omega (arith, adjusted-spare adjust, fit .spared);
+      ordered = kept-order adjusted;
+      unmoved = adjusted-unmoved _ _ _ _ (given-is adjusted);
+    }
 
 origin-of-requires : tie.Need-origin-of-requires
 origin-of-requires c κs = search needs
@@ -331,27 +321,27 @@ pen-after-requires c κs = search needs
 
 -- ---- step 8: the row
 
-module _ (c : tie.After-resolve-clusters-positions-horizontal) where
-  placed-floats : length (c .resolve-clusters-positions-horizontal .last .1 .1 .1 .1 .1 .0) ≡ length (tables (form (done (some (numbered c) .before))) .args .floats .now)
-  placed-floats = c .resolve-clusters-positions-horizontal .kept .1 .1 .1 .1 .1 .0 ∙ adjusted-floats (done (some (numbered c) .before))
+module _ (c : tie.After-place-clusters) where
+  placed-floats : length (c .place-clusters .last .1 .1 .1 .1 .1 .0) ≡ length (tables (form (done (some c .before))) .args .floats .now)
+  placed-floats = c .place-clusters .kept .1 .1 .1 .1 .1 .0 ∙ adjusted-floats (done (some c .before))
 
-  placed-words : length (c .resolve-clusters-positions-horizontal .last .1 .1 .1 .1 .1 .1 .0) ≡ length (tables (form (done (some (numbered c) .before))) .args .words .now)
-  placed-words = c .resolve-clusters-positions-horizontal .kept .1 .1 .1 .1 .1 .1 .0 ∙ adjusted-words (done (some (numbered c) .before))
+  placed-words : length (c .place-clusters .last .1 .1 .1 .1 .1 .1 .0) ≡ length (tables (form (done (some c .before))) .args .words .now)
+  placed-words = c .place-clusters .kept .1 .1 .1 .1 .1 .1 .0 ∙ adjusted-words (done (some c .before))
 
 module _ (c : tie.After-pen-after) where
-  abbrev last : tie.After-resolve-clusters-positions-horizontal
+  abbrev last : tie.After-place-clusters
   last = placed c
 
   abbrev before : tie.After-enum-told
-  before = some (numbered last) .before
+  before = some last .before
 
   abbrev n : ℕ
   n = form (done before) .form-clusters .result
 
-  floats-there : n ≤ length (last .resolve-clusters-positions-horizontal .last .1 .1 .1 .1 .1 .0)
+  floats-there : n ≤ length (last .place-clusters .last .1 .1 .1 .1 .1 .0)
   floats-there = omega (arith, placed-floats last, fits (form (done before)) .floatRows)
 
-  words-there : n ≤ length (last .resolve-clusters-positions-horizontal .last .1 .1 .1 .1 .1 .1 .0)
+  words-there : n ≤ length (last .place-clusters .last .1 .1 .1 .1 .1 .1 .0)
   words-there = omega (arith, placed-words last, fits (form (done before)) .wordRows)
 
   many : let adjust = done before .apply-length-adjust in length (clustersOf (adjust .last .1 .1 .1 .1 .0) (adjust .last .1 .1 .1 .1 .1 .0) n) ≡ n
@@ -361,30 +351,26 @@ module _ (c : tie.After-pen-after) where
 
   abbrev row : ChunkRow
   row =
-      let call = last .resolve-clusters-positions-horizontal in
+      let call = last .place-clusters in
       let args = tables (form (done before)) .args in
       rowAt (args .s .now) (args .next .job) (args .spans .now) (args .merged .now) (record { origin = c .before .origin-of .result; pen = c .pen-after .result })
       (take n (call .last .1 .1 .1 .1 .1 .0)) (take n (call .last .1 .1 .1 .1 .1 .1 .0))
 
   -- the chunk is placed as the row that is written
-  one-row : let call = last .resolve-clusters-positions-horizontal in let args = tables (form (done before)) .args in let adjust = done before .apply-length-adjust in
+  one-row : let call = last .place-clusters in let args = tables (form (done before)) .args in let adjust = done before .apply-length-adjust in
       OneRow (args .s .now) (args .next) (args .merged .now)
       (chunkPlaced (args .s .now) (args .next) (args .merged .now) (clustersOf (adjust .last .1 .1 .1 .1 .0) (adjust .last .1 .1 .1 .1 .1 .0) n))
       (c .pen-after .result) (call .result .extent)
       row
   one-row =
-      let call = last .resolve-clusters-positions-horizontal in
+      let call = last .place-clusters in
       let args = tables (form (done before)) .args in
       let fit = fits (form (done before)) in
       let adjust = done before in
-      let text = begun (form adjust) in
-      let numbers = numbered last in
-      let is = call .ensures (args .next .before .offset) (chunkIn (args .s .now) (args .next)) (anchor-is (args .s .now) (args .next) ∙ sym (last .before .before .before .before .before .anchor-at .ensures))
-      (numbers .character-numbers .ensures ∙ ap (λ (bytes : List ℕ). map (characterNumber bytes (args .next .before .offset)) (indexesIn (adjust .apply-length-adjust .last .1 .1 .1 .1 .1 .0) n)) (text-is text)) in
       let more : 0 < length (clustersOf (adjust .apply-length-adjust .last .1 .1 .1 .1 .0) (adjust .apply-length-adjust .last .1 .1 .1 .1 .1 .0) n) =
-      let one : 0 < n = omega (arith, some numbers .if1 .left) in omega (arith, many, one) in
+      let one : 0 < n = omega (arith, some last .if1 .left) in omega (arith, many, one) in
       rw (cut-clusters _ _ n floats-there words-there)
-      (clusters-row (args .s .now) (args .next) (args .merged .now) (tables (form adjust) .pre .0 .spanned) _ _ more (call .result) is
+      (clusters-row (args .s .now) (args .next) (args .merged .now) (tables (form adjust) .pre .0 .spanned) _ _ more (call .result) (call .ensures)
       (c .before .origin-of .result) (c .pen-after .result) (c .before .origin-of .ensures) (c .pen-after .ensures))
 
   -- which is no longer than the longest
@@ -419,7 +405,7 @@ write-chunk-row-requires c κs =
         units = units-ok given;
       },
       omega (arith, given .spanned .checked .bytes),
-      omega (arith, row-short pen, length-take-le (n pen) (placed pen .resolve-clusters-positions-horizontal .last .1 .1 .1 .1 .1 .1 .0) (words-there pen)),
+      omega (arith, row-short pen, length-take-le (n pen) (placed pen .place-clusters .last .1 .1 .1 .1 .1 .1 .0) (words-there pen)),
     )
 
 progress-behind-requires-2 : tie.Need-progress-behind-requires-2
@@ -445,7 +431,7 @@ same-length-12 c = adjusted-order (done (before (penned (c .before .before .befo
 same-length-13 : tie.Need-same-length-13
 same-length-13 c =
     let pen = penned (c .before .before .before) in
-    numbered (placed pen) .character-numbers .kept .1 .1 .1 .1 .1 .0 ∙ adjusted-spare (done (before pen))
+    placed pen .place-clusters .kept .1 .1 .1 .1 .0 ∙ adjusted-spare (done (before pen))
 
 same-length-14 : tie.Need-same-length-14
 same-length-14 c = search needs
@@ -484,9 +470,7 @@ layout-merged-spec =
     same-length-8
     same-length-9
     returns-2
-    character-numbers-requires
-    anchor-at-requires
-    resolve-clusters-positions-horizontal-requires
+    place-clusters-requires
     origin-of-requires
     pen-after-requires
     slice-reshare-prefix-write-chunk-row

@@ -1,0 +1,39 @@
+-- In a still job the clusters that are turned and placed are those of step 7. Assumes nothing.
+use Prim.Native.Nat.{ℕ}
+use mathlib.Core.Path.{_≡_, refl, sym, _∙_}
+use mathlib.Core.Bool.{Bool, true, _&&_}
+use mathlib.Core.List.{List, [], _∷_}
+use lib.ListN.{drop}
+use Rattle.laws.proofs.All.{All, and-left, and-right}
+use Rattle.laws.proofs.Unmoved.{Unmoved}
+use Rattle.laws.proofs.StillJob.{unmoved-placed}
+use Rattle.labels.specs.Lists.{isEmpty}
+use Rattle.labels.specs.declared.Cluster.{Cluster}
+use Rattle.labels.specs.Position.{positioned, turnShifts}
+use Rattle.labels.specs.Cluster.{rounded}
+use Rattle.labels.specs.Layout.{resolveClustersPositionsHorizontal}
+use Rattle.job_rows.specs.Head.{headOf}
+use Rattle.position.specs.declared.Positioned.{Positioned}
+use Rattle.position.specs.Given.{Placed}
+use Rattle.chunk.specs.declared.progress.NextChunk.{NextChunk}
+use Rattle.chunk.specs.Steps.{chunkIn, jobIn}
+use Rattle.chunk.specs.Placing.{isStill}
+use Rattle.chunk.proofs.Placed.{anchor-is}
+
+none-in : {A : Type 0} (xs : List A) → isEmpty xs ≡ true → xs ≡ []
+unfolding isEmpty
+none-in [] e = refl
+none-in (x ∷ xs) e = cc
+
+pub still-placed : (s : List ℕ) (next : NextChunk) {b : Bool} → b ≡ isStill (jobIn s next) → b ≡ true
+    → {cs turned placed : List Cluster} {anchor : ℕ} {r : Positioned} → All Unmoved cs → anchor ≡ headOf (drop (next .at) s) .anchor
+    → turned ≡ turnShifts rounded (next .job .mode) cs → Placed (positioned rounded anchor turned) placed r
+    → Placed (resolveClustersPositionsHorizontal (jobIn s next) (next .before .offset) (chunkIn s next) cs) placed r
+still-placed s next told is k ea et p =
+    let job = jobIn s next in
+    let still : isStill job ≡ true = sym told ∙ is in
+    let lists = and-left (isEmpty (job .dx) && isEmpty (job .dy)) (isEmpty (job .rotate)) still in
+    let dx = none-in (job .dx) (and-left (isEmpty (job .dx)) (isEmpty (job .dy)) lists) in
+    let dy = none-in (job .dy) (and-right (isEmpty (job .dx)) (isEmpty (job .dy)) lists) in
+    let rotate = none-in (job .rotate) (and-right (isEmpty (job .dx) && isEmpty (job .dy)) (isEmpty (job .rotate)) still) in
+    rw (unmoved-placed job dx dy rotate (next .before .offset) (chunkIn s next) k, anchor-is s next, ← ea, ← et) p

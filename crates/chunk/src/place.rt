@@ -1,0 +1,50 @@
+// Step 7 of a chunk.
+use crate::progress::NextChunk;
+use job_rows::rows::anchor_at;
+use labels::Job;
+use position::Positioned;
+use position::line::positioned;
+use position::line::resolve_clusters_positions_horizontal;
+use position::shifts::turn_shifts;
+use text_order::character_numbers;
+use wire::read::u16_at;
+ghost use mathlib.Core.Path.{_≡_};
+ghost use Rattle.labels.specs.Layout.{resolveClustersPositionsHorizontal};
+ghost use Rattle.clusters.specs.Clusters.{clustersOf};
+ghost use Rattle.job_rows.specs.Rows.{jobAt};
+ghost use Rattle.position.specs.Given.{Placed};
+ghost use Rattle.chunk.specs.Steps.{jobIn, chunkIn};
+ghost use Rattle.chunk.specs.Placing.{isStill, Unplaced};
+
+// The lists dx, dy and rotate are empty: no character is shifted or rotated.
+fn is_still(s: &[u8], job: Job) -> bool
+    ensures { λ r. ⌜ r ≡ isStill (jobAt (now (s .entry)) job) ⌝ }
+{
+    (u16_at(s, job.dx) == 0) & (u16_at(s, job.dy) == 0) & (u16_at(s, job.rotate) == 0)
+}
+
+// Of a chunk that has clusters. In most jobs nothing is shifted or rotated, and then no character is numbered; else `spare` takes the numbers.
+pub fn place_clusters(
+    s: &[u8],
+    next: NextChunk,
+    text: &[u8],
+    order: &[u32],
+    spare: &mut [u32],
+    floats: &mut [[f32; 10]],
+    words: &mut [[u32; 6]],
+    n: usize,
+) -> Positioned
+    requires { ⌜ Unplaced (now s) next (now text) (now order) (now spare) (now floats) (now words) n ⌝ }
+    ensures { λ r. ⌜ Placed (resolveClustersPositionsHorizontal (jobIn (now (s .entry)) next) (next .before .offset) (chunkIn (now (s .entry)) next)
+        (clustersOf (now (floats .entry)) (now (words .entry)) n)) (clustersOf (now (floats .exit)) (now (words .exit)) n) r ⌝ }
+{
+    let job = next.job;
+    let before = next.before;
+    let anchor = anchor_at(s, next.at);
+    if is_still(s, job) {
+        turn_shifts(job.mode, floats, words, n);
+        return positioned(anchor, order, floats, words, n);
+    }
+    character_numbers(text, before.offset, words, n, order, spare);
+    resolve_clusters_positions_horizontal(s, job, anchor, order, spare, floats, words, n)
+}
