@@ -53,7 +53,10 @@ pub fn number_at(s: &[u8], at: usize, width: usize) -> u64
     requires { ⌜ width ≤ 8 ⌝ }
     ensures { λ r. ⌜ (r ≡ be width (drop at (now (s .entry)))) × (r < 256 ^ width) ⌝ }
 {
-    let row = crate::place::from(s, at);
+    if s.len() < at {
+        return 0;
+    }
+    let row = &s[at..];
     if width <= row.len() {
         return number_of(row, width);
     }

@@ -2,19 +2,32 @@
 use mathlib.Core.Path.{ap, _∙_}
 use native.Mathlib.Omega.{arith}
 use Rattle.labels.specs.Bytes.{be}
+use Rattle.wire.proofs.Digits.{be-past, none-below}
 use Rattle.wire.proofs.Padded.{be-padded}
+use Rattle.wire.proofs.Places.{take-rest}
 use borrow.Author.Needs.{needs}
 use Rattle.wire.proofs.read.number_at.Statement.{statement}
 use Rattle.wire.proofs.read.number_at.Tie as tie
 
-from-requires : tie.Need-from-requires
-from-requires c κs = search needs
+returns : tie.Need-returns
+returns c = let a = c .before .before .args in (be-past (a .width) (a .at) (a .s .now) (omega arith), none-below (a .width))
+
+sub-row : tie.Need-sub-row
+sub-row c = search needs
+
+part-row-start : tie.Need-part-row-start
+part-row-start c = search needs
+
+part-row-end : tie.Need-part-row-end
+part-row-end c = search needs
 
 number-of-requires : tie.Need-number-of-requires
 number-of-requires c κs = search needs
 
-returns : tie.Need-returns
-returns c = (c .number-of .ensures .0 ∙ ap (be (c .before .before .before .before .args .width)) (c .before .before .from .ensures), c .number-of .ensures .1)
+returns-2 : tie.Need-returns-2
+returns-2 c =
+    let a = c .before .before .before .before .before .args in
+    (c .number-of .ensures .0 ∙ ap (be (a .width)) (take-rest (a .at) (a .s .now)), c .number-of .ensures .1)
 
 slice-aggregate-pad : tie.Need-slice-aggregate-pad
 slice-aggregate-pad c = search needs
@@ -28,12 +41,11 @@ slice-aggregate-number-of c = search needs
 number-of-requires-2 : tie.Need-number-of-requires-2
 number-of-requires-2 c κs = search needs
 
-returns-2 : tie.Need-returns-2
-returns-2 c =
-    let width = c .before .before .before .before .before .before .before .before .args .width in
-    let row = c .before .before .before .before .before .before .from in (
-      c .number-of2 .ensures .0 ∙ ap (be width) (c .before .before .before .pad .ensures) ∙ be-padded 8 (row .result .now) width 0 (omega arith)
-          ∙ ap (be width) (row .ensures),
+returns-3 : tie.Need-returns-3
+returns-3 c =
+    let a = c .before .before .before .before .before .before .before .before .before .args in (
+      c .number-of2 .ensures .0 ∙ ap (be (a .width)) (c .before .before .before .pad .ensures) ∙ be-padded 8 _ (a .width) 0 (omega arith)
+          ∙ ap (be (a .width)) (take-rest (a .at) (a .s .now)),
       c .number-of2 .ensures .1,
     )
 
@@ -41,11 +53,14 @@ pub number-at-spec : {M : Type 1} → statement M
 number-at-spec =
     tie.close
     (tie.spec
-    from-requires
-    number-of-requires
     returns
+    sub-row
+    part-row-start
+    part-row-end
+    number-of-requires
+    returns-2
     slice-aggregate-pad
     pad-requires
     slice-aggregate-number-of
     number-of-requires-2
-    returns-2)
+    returns-3)
