@@ -1,9 +1,9 @@
 // One cluster, of the merged glyphs from one place to another.
+use crate::first::first_font;
+use crate::first::first_glyph;
 use crate::runs::place_in;
-use job_rows::numbered::font_in;
 use job_rows::numbered::size_in;
 use job_rows::numbered::units_in;
-use job_rows::rows::glyph_at;
 use job_rows::sizes::GLYPH_FONT_AT;
 use job_rows::sizes::GLYPH_WIDTH_AT;
 use labels::Cluster;
@@ -93,8 +93,8 @@ pub fn form_glyph_clusters(
         (groupIn (now (s .entry)) (now (merged .entry)) from end k)) × (r .index < 65_536) ⌝ }
 {
     let size = size_in(s, spans, k);
-    let first = glyph_at(s, place_in(merged, from));
-    let font = font_in(s, fonts, first.font);
+    let first = first_glyph(s, place_in(merged, from));
+    let font = first_font(s, fonts, first.font);
     let own = measure_units(font.units, size, first.width);
     let advances = glyph_advances(s, fonts, merged, from, end, size, own);
     let up = ascent(font, size);

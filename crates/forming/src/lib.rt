@@ -3,6 +3,7 @@
 // spans.
 pub mod chunk;
 pub mod few;
+pub mod first;
 pub mod form;
 pub mod runs;
 pub mod spans;

@@ -12,12 +12,12 @@ use lib.Seq.{drop-drop, take-suc-set, take-all, append-snoc}
 use borrow.Author.Tests.{le-leb}
 use Rattle.labels.specs.Lists.{all}
 use Rattle.labels.specs.Bytes.{rows, sizes}
-use Rattle.labels.specs.Job.{SpanParts}
-use Rattle.labels.specs.Decode.{spanSize, partsOf}
+use Rattle.labels.specs.Job.{SpanParts, blankFont, fontAt}
+use Rattle.labels.specs.Decode.{fontBytes, fontOf, spanSize, partsOf}
 use Rattle.laws.proofs.All.{and-left, and-right}
 use Rattle.laws.proofs.Records.{length-rows, rows-at}
 use Rattle.job_rows.proofs.Walks.{rows-turn, rows-done}
-use Rattle.job_rows.specs.Rows.{partsIn}
+use Rattle.job_rows.specs.Rows.{fontsIn, partsIn}
 
 -- ---- rows of one size
 
@@ -34,6 +34,16 @@ module _ {A : Type 0} (k : ℕ) (read : List ℕ → A) (n : ℕ) (bs : List ℕ
 
   pub row-past : n ≤ i → d ≡ getD (rows (λ r. k) read n (drop at bs)) i d
   row-past h = sym (List·getD-eq-default (rows (λ r. k) read n (drop at bs)) d (rw (length-rows (λ r. k) read n (drop at bs)) h))
+
+-- the font of byte b
+module _ (s : List ℕ) (fonts b : ℕ) where
+  pub font-here : b < fonts → fontOf (drop (7 + b * fontBytes) s) ≡ fontAt (fontsIn s fonts) b
+  unfolding fontsIn
+  font-here h = row-in fontBytes fontOf fonts s 7 b blankFont h
+
+  pub font-past : fonts ≤ b → blankFont ≡ fontAt (fontsIn s fonts) b
+  unfolding fontsIn
+  font-past h = row-past fontBytes fontOf fonts s 7 b blankFont h
 
 -- ---- a list that is mapped
 

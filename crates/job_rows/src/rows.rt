@@ -46,7 +46,7 @@ fn padded_row(row: &[u8]) -> [u8; SPAN_HEAD_BYTES]
     padded
 }
 
-fn font_of(row: &[u8]) -> Font
+pub fn font_of(row: &[u8]) -> Font
     requires { ⌜ fontBytes ≤ length (now row) ⌝ }
     ensures { λ r. ⌜ r ≡ fontOf (now (row .entry)) ⌝ }
 {

@@ -10,10 +10,10 @@ use Rattle.forming.proofs.form.form_glyph_clusters.Statement.{statement
 use Rattle.forming.proofs.form.form_glyph_clusters.Tie as tie
 
 -- where the first glyph is read, and the call, seen from there
-abbrev first : tie.After-struct-known2 → tie.After-glyph-at
+abbrev first : tie.After-struct-known2 → tie.After-first-glyph
 first c = c .before .before .before .before .before .before .before .before
 
-abbrev call : tie.After-glyph-at → tie.Start
+abbrev call : tie.After-first-glyph → tie.Start
 call at-first = at-first .before .before .before .before .before .before
 
 size-in-requires : tie.Need-size-in-requires
@@ -22,18 +22,18 @@ size-in-requires c κs = search needs
 place-in-requires : tie.Need-place-in-requires
 place-in-requires c κs = search needs
 
-glyph-at-requires : tie.Need-glyph-at-requires
-glyph-at-requires c κs = search needs
+first-glyph-requires : tie.Need-first-glyph-requires
+first-glyph-requires c κs = search needs
 
-font-in-requires : tie.Need-font-in-requires
-font-in-requires c κs = search needs
+first-font-requires : tie.Need-first-font-requires
+first-font-requires c κs = search needs
 
 measure-units-requires : tie.Need-measure-units-requires
 measure-units-requires c κs =
     let at-first = c .before .before in
     let a = call at-first .args in
     let h = call at-first .pre .0 in
-    rw (toZ-ofZ (record { sfits = c .struct-told .given .1 .1 .1 .1 .1 .0 .1 }), at-first .glyph-at .ensures, at-first .before .place-in .ensures)
+    rw (toZ-ofZ (record { sfits = c .struct-told .given .1 .1 .1 .1 .1 .0 .1 }), at-first .first-glyph .ensures, at-first .before .place-in .ensures)
     (leb-true _ _ (width-next (a .s .now) (a .merged .now) (a .end) (a .from) (h .some) (h .inside) (h .widths)))
 
 glyph-advances-requires : tie.Need-glyph-advances-requires
@@ -44,8 +44,8 @@ glyph-advances-requires c κs =
       rw (
         c .measure-units .ensures,
         toZ-ofZ (record { sfits = told .struct-told .given .1 .1 .1 .1 .1 .0 .1 }),
-        told .before .font-in .ensures,
-        at-first .glyph-at .ensures,
+        told .before .first-font .ensures,
+        at-first .first-glyph .ensures,
         at-first .before .place-in .ensures,
       ),
     )
@@ -84,8 +84,8 @@ returns c =
         at-ascent .ascent .ensures,
         at-advances .glyph-advances .ensures .0,
         at-advances .glyph-advances .ensures .1,
-        at-font .font-in .ensures,
-        at-first .glyph-at .ensures,
+        at-font .first-font .ensures,
+        at-first .first-glyph .ensures,
         at-first .before .place-in .ensures,
         at-first .before .before .size-in .ensures,
         part-length (a .s .now) (a .merged .now) (a .end) (a .from) (call at-first .pre .0 .inside),
@@ -99,8 +99,8 @@ form-glyph-clusters-spec =
     (tie.spec
     size-in-requires
     place-in-requires
-    glyph-at-requires
-    font-in-requires
+    first-glyph-requires
+    first-font-requires
     measure-units-requires
     glyph-advances-requires
     ascent-requires

@@ -2,19 +2,14 @@
 use native.Mathlib.Omega.{arith}
 use mathlib.Core.Path.{ap, _∙_}
 use Rattle.labels.specs.declared.Font.{Font}
-use Rattle.labels.specs.Job.{blankFont}
-use Rattle.labels.specs.Decode.{fontBytes, fontOf}
-use Rattle.job_rows.specs.Rows.{fontsIn}
-use Rattle.job_rows.proofs.ByNumber.{row-in, row-past}
+use Rattle.labels.specs.Decode.{fontOf}
+use Rattle.job_rows.proofs.ByNumber.{font-here, font-past}
 use borrow.Author.Needs.{needs}
 use Rattle.job_rows.proofs.numbered.units_in.Statement.{statement}
 use Rattle.job_rows.proofs.numbered.units_in.Tie as tie
 
 returns : tie.Need-returns
-unfolding fontsIn
-returns c =
-    let a = c .before .before .args in
-    ap (λ (f : Font). f .units) (row-past fontBytes fontOf (a .fonts) (a .s .now) 7 (a .b) blankFont (omega arith))
+returns c = let a = c .before .before .args in ap (λ (f : Font). f .units) (font-past (a .s .now) (a .fonts) (a .b) (omega arith))
 
 mul-u16-at : tie.Need-mul-u16-at
 mul-u16-at c = search needs
@@ -26,10 +21,10 @@ u16-at-requires : tie.Need-u16-at-requires
 u16-at-requires c κs = search needs
 
 returns-2 : tie.Need-returns-2
-unfolding fontsIn fontOf
+unfolding fontOf
 returns-2 c =
     let a = c .before .before .before .args in
-    c .u16-at .ensures ∙ ap (λ (f : Font). f .units) (row-in fontBytes fontOf (a .fonts) (a .s .now) 7 (a .b) blankFont (omega arith))
+    c .u16-at .ensures ∙ ap (λ (f : Font). f .units) (font-here (a .s .now) (a .fonts) (a .b) (omega arith))
 
 pub units-in-spec : {M : Type 1} → statement M
 units-in-spec =
