@@ -2,6 +2,7 @@
 // Each reader is total: past the end it gives what the definitions give there.
 use crate::rows::font_at;
 use crate::rows::span_at;
+use crate::rows::span_float;
 use crate::sizes::FLOAT_SIZE;
 use crate::sizes::FONT_BYTES;
 use crate::sizes::LIST_COUNT_BYTES;
@@ -102,7 +103,7 @@ pub fn size_in(s: &[u8], places: &[usize], k: usize) -> f32
     if places.len() <= k {
         return 0.0;
     }
-    f32_at(from(s, places[k]), SPAN_SIZE_AT)
+    span_float(from(s, places[k]), SPAN_SIZE_AT)
 }
 
 // The float of place `i` in a list, given the bytes from its count on.

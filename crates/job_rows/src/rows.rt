@@ -29,8 +29,9 @@ use wire::read::u16_at;
 use wire::read::u16_within;
 use wire::read::u32_within;
 ghost use mathlib.Core.Path.{_≡_};
-ghost use Prim.Native.Nat.{_≤_};
+ghost use Prim.Native.Nat.{_+_, _≤_};
 ghost use lib.ListN.{length, drop};
+ghost use Rattle.labels.specs.Bytes.{float};
 ghost use Rattle.labels.specs.Decode.{fontBytes, fontOf, glyphBytes, glyphOf, spanOf, shiftOf};
 ghost use Rattle.wire.specs.Padded.{paddedOf};
 ghost use Rattle.job_rows.specs.Head.{headOf};
@@ -143,6 +144,17 @@ pub fn span_at(s: &[u8], at: usize) -> Span
     }
     let padded = padded_row(row);
     span_of(&padded)
+}
+
+// The float at `at` of a span's head, which is nearly always whole: then one test tells that the float is there.
+pub fn span_float(row: &[u8], at: usize) -> f32
+    requires { ⌜ at + 4 ≤ 26 ⌝ }
+    ensures { λ r. ⌜ r ≡ float (drop at (now (row .entry))) ⌝ }
+{
+    if SPAN_HEAD_BYTES <= row.len() {
+        return f32_within(row, at);
+    }
+    f32_at(row, at)
 }
 
 // ---- a chunk and a shift

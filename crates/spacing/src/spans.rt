@@ -1,8 +1,8 @@
 // Letter and word spacing: those of a chunk's spans, of which only the float that is asked for is read, and a cluster with one added.
+use job_rows::rows::span_float;
 use job_rows::sizes::SPAN_LETTER_AT;
 use job_rows::sizes::SPAN_WORD_AT;
 use labels::Cluster;
-use wire::read::f32_at;
 ghost use mathlib.Core.Path.{_≡_};
 ghost use mathlib.Core.Bool.{not};
 ghost use lib.ListN.{drop};
@@ -25,8 +25,8 @@ fn spacing_of(row: &[u8], spacing: Spacing) -> f32
     ensures { λ r. ⌜ r ≡ spacingOf spacing (spanOf (now (row .entry))) ⌝ }
 {
     match spacing {
-        Spacing::Letter => f32_at(row, SPAN_LETTER_AT),
-        Spacing::Word => f32_at(row, SPAN_WORD_AT),
+        Spacing::Letter => span_float(row, SPAN_LETTER_AT),
+        Spacing::Word => span_float(row, SPAN_WORD_AT),
     }
 }
 

@@ -21,16 +21,16 @@ shared-slice-read-from c = search needs
 from-requires : tie.Need-from-requires
 from-requires c κs = search needs
 
-f32-at-requires : tie.Need-f32-at-requires
-f32-at-requires c κs = search needs
+span-float-requires : tie.Need-span-float-requires
+span-float-requires c κs = search needs
 
 returns-2 : tie.Need-returns-2
 unfolding spansIn spanOf
 returns-2 c =
     let a = c .before .before .before .before .before .before .args in
-    rw (c .f32-at .ensures, c .before .from .ensures, map-in _ (a .places .now) (a .k) 0 blankSpan (omega arith))
+    rw (c .span-float .ensures, c .before .from .ensures, map-in _ (a .places .now) (a .k) 0 blankSpan (omega arith))
 
 pub size-in-spec : {M : Type 1} → statement M
 size-in-spec =
     tie.close
-    (tie.spec returns mul-from shared-slice-read-from from-requires f32-at-requires returns-2)
+    (tie.spec returns mul-from shared-slice-read-from from-requires span-float-requires returns-2)

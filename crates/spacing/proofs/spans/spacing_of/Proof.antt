@@ -7,23 +7,23 @@ use Rattle.spacing.proofs.spans.spacing_of.Tie as tie
 enum-told : tie.Need-enum-told
 enum-told c = search needs
 
-f32-at-requires : tie.Need-f32-at-requires
-f32-at-requires c κs = search needs
+span-float-requires : tie.Need-span-float-requires
+span-float-requires c κs = search needs
 
 enum-told-2 : tie.Need-enum-told-2
 enum-told-2 c = search needs
 
-f32-at-requires-2 : tie.Need-f32-at-requires-2
-f32-at-requires-2 c κs = search needs
+span-float-requires-2 : tie.Need-span-float-requires-2
+span-float-requires-2 c κs = search needs
 
 returns : tie.Need-returns
 unfolding spanOf
-returns c = rw (c .before .enum-told .given .1, c .f32-at .ensures)
+returns c = rw (c .before .enum-told .given .1, c .span-float .ensures)
 
 returns-2 : tie.Need-returns-2
 unfolding spanOf
-returns-2 c = rw (c .before .enum-told2 .given .1, c .f32-at2 .ensures)
+returns-2 c = rw (c .before .enum-told2 .given .1, c .span-float2 .ensures)
 
 pub spacing-of-spec : {M : Type 1} → statement M
 spacing-of-spec =
-    tie.close (tie.spec enum-told f32-at-requires enum-told-2 f32-at-requires-2 returns returns-2)
+    tie.close (tie.spec enum-told span-float-requires enum-told-2 span-float-requires-2 returns returns-2)
