@@ -1,22 +1,34 @@
 // Which span covers a byte index.
 use job_rows::sizes::SPAN_END_AT;
+use job_rows::sizes::SPAN_HEAD_BYTES;
 use wire::place::from;
 use wire::read::u16_at;
+use wire::read::u16_within;
 ghost use mathlib.Core.Path.{_≡_};
+ghost use mathlib.Core.Bool.{_&&_};
+ghost use lib.Dec.{leb, ltb};
 ghost use lib.ListN.{drop};
 ghost use Rattle.labels.specs.Decode.{spanOf};
 ghost use Rattle.labels.specs.Merge.{spanContains};
 ghost use Rattle.labels.specs.Group.{chunkSpanAt};
 ghost use Rattle.job_rows.specs.Rows.{spansIn};
 
-// The span whose record stands at `at`.
+// Whether the bytes from `start` to `end` have one at `index`.
+fn covers(start: u16, end: u16, index: usize) -> bool
+    ensures { λ r. ⌜ r ≡ (leb start index && ltb index end) ⌝ }
+{
+    (start as usize <= index) & (index < end as usize)
+}
+
+// The span whose record stands at `at`. Its head is nearly always whole: then one test tells that both numbers are there.
 pub fn span_contains_at(s: &[u8], at: usize, index: usize) -> bool
     ensures { λ r. ⌜ r ≡ spanContains (spanOf (drop at (now (s .entry)))) index ⌝ }
 {
     let row = from(s, at);
-    let start = u16_at(row, 0) as usize;
-    let end = u16_at(row, SPAN_END_AT) as usize;
-    (start <= index) & (index < end)
+    if SPAN_HEAD_BYTES <= row.len() {
+        return covers(u16_within(row, 0), u16_within(row, SPAN_END_AT), index);
+    }
+    covers(u16_at(row, 0), u16_at(row, SPAN_END_AT), index)
 }
 
 // The place of the first span that covers `index`; the number of spans where none does.

@@ -1,4 +1,4 @@
--- `forming::spans::span_contains_at` meets its contract. Assumes nothing.
+-- `forming::spans::span_contains_at` meets its contract, whether the head is whole or not. Assumes nothing.
 use Rattle.labels.specs.Decode.{spanOf}
 use borrow.Author.Needs.{needs}
 use Rattle.forming.proofs.spans.span_contains_at.Statement.{statement}
@@ -7,23 +7,44 @@ use Rattle.forming.proofs.spans.span_contains_at.Tie as tie
 from-requires : tie.Need-from-requires
 from-requires c κs = search needs
 
+u16-within-requires : tie.Need-u16-within-requires
+u16-within-requires c κs = search needs
+
+u16-within-requires-2 : tie.Need-u16-within-requires-2
+u16-within-requires-2 c κs = search needs
+
+covers-requires : tie.Need-covers-requires
+covers-requires c κs = search needs
+
+returns : tie.Need-returns
+unfolding spanOf
+returns c =
+    rw (c .covers .ensures, c .before .before .u16-within .ensures, c .before .u16-within2 .ensures, c .before .before .before .before .from .ensures)
+
 u16-at-requires : tie.Need-u16-at-requires
 u16-at-requires c κs = search needs
-
-cast-start : tie.Need-cast-start
-cast-start c = search needs
 
 u16-at-requires-2 : tie.Need-u16-at-requires-2
 u16-at-requires-2 c κs = search needs
 
-cast-end : tie.Need-cast-end
-cast-end c = search needs
+covers-requires-2 : tie.Need-covers-requires-2
+covers-requires-2 c κs = search needs
 
-returns : tie.Need-returns
+returns-2 : tie.Need-returns-2
 unfolding spanOf
-returns c = rw (c .before .u16-at .ensures, c .u16-at2 .ensures, c .before .before .from .ensures)
+returns-2 c =
+    rw (c .covers2 .ensures, c .before .before .u16-at .ensures, c .before .u16-at2 .ensures, c .before .before .before .before .from .ensures)
 
 pub span-contains-at-spec : {M : Type 1} → statement M
 span-contains-at-spec =
     tie.close
-    (tie.spec from-requires u16-at-requires cast-start u16-at-requires-2 cast-end returns)
+    (tie.spec
+    from-requires
+    u16-within-requires
+    u16-within-requires-2
+    covers-requires
+    returns
+    u16-at-requires
+    u16-at-requires-2
+    covers-requires-2
+    returns-2)
