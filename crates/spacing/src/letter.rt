@@ -5,15 +5,17 @@ use crate::spans::spaced;
 use crate::spans::spacing_in;
 use clusters::cluster_at;
 use clusters::put_cluster;
+use clusters::put_floats;
 use labels::Cluster;
 use labels::script_supports_letter_spacing;
 ghost use mathlib.Core.Path.{_≡_};
-ghost use Prim.Native.Nat.{_≤_};
-ghost use lib.ListN.{length};
+ghost use mathlib.Core.Bool.{cond};
+ghost use Prim.Native.Nat.{_<_, _≤_};
+ghost use lib.ListN.{length, set};
 ghost use Rattle.labels.specs.Cluster.{rounded};
 ghost use Rattle.labels.specs.Spacing.{settled, letterSpaced, nextLetterSpaced, applyLetterSpacing};
 ghost use Rattle.job_rows.specs.Rows.{spansIn};
-ghost use Rattle.clusters.specs.Clusters.{clustersOf};
+ghost use Rattle.clusters.specs.Clusters.{floatsOf, wordsOf, clustersOf};
 
 // A cluster whose advance is not above 0 loses its width, its advance and its glyphs.
 pub fn settled(c: Cluster) -> Cluster
@@ -51,6 +53,19 @@ fn next_letter_spaced(s: &[u8], spans: &[usize], left: usize, c: Cluster) -> Clu
     c
 }
 
+// Stores it. Its words are unchanged unless it has collapsed.
+fn put_spaced(floats: &mut [[f32; 10]], words: &mut [[u32; 6]], i: usize, c: Cluster)
+    requires { ⌜ (i < length (now floats)) × (i < length (now words)) ⌝ }
+    ensures { λ _. ⌜ (now (floats .exit) ≡ set (now (floats .entry)) i (floatsOf c))
+        × (now (words .exit) ≡ cond (c .collapsed) (set (now (words .entry)) i (wordsOf c)) (now (words .entry))) ⌝ }
+{
+    if c.collapsed {
+        put_cluster(floats, words, i, c);
+        return;
+    }
+    put_floats(floats, i, c);
+}
+
 pub fn apply_letter_spacing(
     s: &[u8],
     spans: &[usize],
@@ -69,7 +84,7 @@ pub fn apply_letter_spacing(
     while i < n {
         let c = cluster_at(floats, words, i);
         let d = next_letter_spaced(s, spans, n - i, c);
-        put_cluster(floats, words, i, d);
+        put_spaced(floats, words, i, d);
         i += 1;
     }
 }

@@ -13,7 +13,8 @@ use Rattle.labels.specs.Spacing.{nextLetterSpaced, applyLetterSpacing}
 use Rattle.job_rows.specs.Rows.{spansIn}
 use Rattle.clusters.specs.Clusters.{clustersOf}
 use Rattle.clusters.proofs.Rows.{clusters-length}
-use Rattle.clusters.proofs.Turns.{stored, stage-turn, stage-done}
+use Rattle.clusters.proofs.Turns.{stored, stage-done}
+use Rattle.spacing.proofs.Collapses.{letter-turn}
 use Rattle.spacing.proofs.Tests.{cond-true, cond-false}
 use Rattle.spacing.proofs.letter.apply_letter_spacing.Statement.{statement}
 use Rattle.spacing.proofs.letter.apply_letter_spacing.Tie as tie
@@ -52,8 +53,8 @@ sub-next-letter-spaced c = search needs
 next-letter-spaced-requires : tie.Need-next-letter-spaced-requires Inv-loop μ-loop
 next-letter-spaced-requires c κs = search needs
 
-put-cluster-requires : tie.Need-put-cluster-requires Inv-loop μ-loop
-put-cluster-requires c κs = search needs
+put-spaced-requires : tie.Need-put-spaced-requires Inv-loop μ-loop
+put-spaced-requires c κs = search needs
 
 add-i : tie.Need-add-i Inv-loop μ-loop
 add-i c =
@@ -66,18 +67,17 @@ loop-less c = search needs
 loop-again : tie.Need-loop-again Inv-loop μ-loop
 loop-again c =
     let kept = c .before .before in
-    let put = kept .put-cluster .ensures in
+    let put = kept .put-spaced .ensures in
     let made = kept .before .before .before in
     let read = made .before in
     let loop = read .before .before .before .before in
     let start = loop .before .before .before .before .before in
     let a = start .args in
-    let l = loop .loop in
-    let next = nextLetterSpaced rounded (spansIn (a .s .now) (a .spans .now)) in (
+    let l = loop .loop in (
       omega arith,
       omega arith,
       omega arith,
-      stage-turn less next (a .n - l .i) (a .n - (l .i + 1)) (l .floats) (l .words) (a .n) (l .i) (read .cluster-at .result) (made .next-letter-spaced .result)
+      letter-turn (spansIn (a .s .now) (a .spans .now)) less (a .n - l .i) (a .n - (l .i + 1)) (l .floats) (l .words) (a .n) (l .i) (read .cluster-at .result) (made .next-letter-spaced .result)
           (read .cluster-at .ensures) (made .next-letter-spaced .ensures) (omega arith) (put .0) (put .1) (omega arith) (omega (arith, start .pre .0)) (omega (arith, start .pre .1))
           ∙ l .inv .3,
     )
@@ -111,7 +111,7 @@ apply-letter-spacing-spec =
     cluster-at-requires
     sub-next-letter-spaced
     next-letter-spaced-requires
-    put-cluster-requires
+    put-spaced-requires
     add-i
     loop-less
     loop-again
