@@ -11,7 +11,7 @@ use borrow.Author.Tests.{eqb-true, eqb-false, eq-eqb, ne-eqb}
 use Rattle.labels.specs.declared.Glyph.{Glyph}
 use Rattle.labels.specs.Lists.{findIdx}
 use Rattle.labels.specs.Group.{joinRun, glyphRuns}
-use Rattle.forming.proofs.Search.{find-le, foundFrom}
+use Rattle.laws.proofs.Search.{find-le, foundFrom}
 
 -- a glyph of another byte index
 abbrev pub other : ℕ → Glyph → Bool

@@ -1,4 +1,3 @@
-pub mod Search
 pub mod Glyphs
 pub mod FirstRun
 pub mod FewClusters

@@ -1,18 +1,11 @@
 -- A test that every element of a list passes. Assumes nothing.
 use Prim.Native.Nat.{ℕ, zero, suc}
 use mathlib.Core.Path.{_≡_, refl}
-use mathlib.Core.Bool.{Bool, true, false, _&&_}
+use mathlib.Core.Bool.{Bool, true}
 use mathlib.Core.List.{List, [], _∷_, _++_}
 use lib.ListN.{take, drop}
 use Rattle.labels.specs.Lists.{all}
-
-and-left : (a b : Bool) → (a && b) ≡ true → a ≡ true
-and-left true b e = refl
-and-left false b e = e
-
-and-right : (a b : Bool) → (a && b) ≡ true → b ≡ true
-and-right true b e = e
-and-right false b e = cc
+use Rattle.laws.proofs.All.{and-left, and-right}
 
 module _ {A : Type 0} (p : A → Bool) where
   pub all-first : {xs rest : List A} {x : A} → xs ≡ x ∷ rest → all p xs ≡ true → p x ≡ true

@@ -5,7 +5,7 @@ use mathlib.Core.Path.{_≡_, sym, _∙_}
 use lib.ListN.{length, drop}
 use Rattle.job_rows.specs.Rows.{glyphsAt}
 use Rattle.forming.specs.Groups.{glyphIn}
-use Rattle.forming.proofs.Search.{foundFrom, find-here, find-on, find-end}
+use Rattle.laws.proofs.Search.{foundFrom, find-here, find-on, find-end}
 use Rattle.forming.proofs.Glyphs.{merged-next, merged-length}
 use Rattle.forming.proofs.FirstRun.{other, is-other, is-same, runLength, run-search}
 use borrow.Author.Needs.{needs}

@@ -7,7 +7,7 @@ use Rattle.labels.specs.declared.Span.{Span}
 use Rattle.labels.specs.Merge.{spanContains}
 use Rattle.labels.specs.Group.{chunkSpanAt}
 use Rattle.job_rows.specs.Rows.{spansIn}
-use Rattle.forming.proofs.Search.{foundFrom, find-start, find-here, find-on, find-end}
+use Rattle.laws.proofs.Search.{foundFrom, find-start, find-here, find-on, find-end}
 use Rattle.forming.proofs.Glyphs.{span-next, spans-length}
 use borrow.Author.Needs.{needs}
 use Rattle.forming.proofs.spans.chunk_span_at.Statement.{statement}
