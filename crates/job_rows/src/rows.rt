@@ -8,7 +8,9 @@ use crate::sizes::GLYPH_FONT_AT;
 use crate::sizes::GLYPH_INDEX_AT;
 use crate::sizes::GLYPH_LENGTH_AT;
 use crate::sizes::GLYPH_WIDTH_AT;
+use crate::sizes::SPAN_ADJUST_AT;
 use crate::sizes::SPAN_END_AT;
+use crate::sizes::SPAN_FIXED_AT;
 use crate::sizes::SPAN_FONT_AT;
 use crate::sizes::SPAN_HEAD_BYTES;
 use crate::sizes::SPAN_LETTER_AT;
@@ -125,9 +127,9 @@ fn span_of(row: &[u8]) -> Span
         size: f32_within(row, SPAN_SIZE_AT),
         letter: f32_within(row, SPAN_LETTER_AT),
         word: f32_within(row, SPAN_WORD_AT),
-        fixed: u8_within(row, 17),
+        fixed: u8_within(row, SPAN_FIXED_AT),
         length: f32_within(row, 18),
-        adjust: u8_within(row, 22),
+        adjust: u8_within(row, SPAN_ADJUST_AT),
         dominant: u8_within(row, 23),
         alignment: u8_within(row, 24),
         decorations: u8_within(row, 25),

@@ -54,7 +54,7 @@ pub const TEXT_AT: usize = 11;
 
 pub const TEXT_BYTES_AT: usize = TEXT_AT + 2;
 
-// Where a span's end stands, behind its start, its font byte, font size, letter spacing and word spacing.
+// Where a span's end stands, behind its start, its font byte, font size, letter and word spacing, length flag and adjust.
 pub const SPAN_END_AT: usize = 2;
 
 pub const SPAN_FONT_AT: usize = 4;
