@@ -1,8 +1,12 @@
-// UTF-8, byte by byte.
+// UTF-8: ASCII bytes by blocks, other characters one by one.
 use labels::Utf8State;
 use wire::read::byte_at;
+ghost use Prim.Native.Nat.{_+_, _<_, _≤_};
 ghost use mathlib.Core.Path.{_≡_};
-ghost use Rattle.labels.specs.Utf8.{lead, next, isBoundary, isUtf8, startsAt};
+ghost use mathlib.Core.Bool.{true, false, _&&_};
+ghost use lib.ListN.{length, drop};
+ghost use Rattle.labels.specs.Utf8.{within, lead, isUtf8, startsAt};
+ghost use Rattle.fields.specs.Skips.{Skips, utf8After};
 
 // After a character's first byte.
 pub fn after_lead(b: u8) -> Utf8State
@@ -35,43 +39,112 @@ pub fn after_lead(b: u8) -> Utf8State
     Utf8State::Malformed
 }
 
-// After the next byte.
-pub fn after_byte(state: Utf8State, b: u8) -> Utf8State
-    ensures { λ r. ⌜ r ≡ next state b ⌝ }
+// The bytes that are looked at together. No test waits for another, so that the compiler makes one of them all.
+const BLOCK: usize = 16;
+
+// The bytes from `start` up to `end` are ASCII.
+fn ascii_between(text: &[u8], start: usize, end: usize) -> bool
+    requires { ⌜ (start ≤ end) × (end ≤ length (now text)) ⌝ }
+    ensures { λ r. ⌜ (r ≡ true → Skips (now (text .entry)) start end) ⌝ }
 {
-    match state {
-        Utf8State::Malformed => Utf8State::Malformed,
-        Utf8State::Expecting(n, low, high) => {
-            if n == 0 {
-                return after_lead(b);
-            }
-            if (low <= b) & (b <= high) {
-                return Utf8State::Expecting(n - 1, 0x80, 0xbf);
-            }
-            Utf8State::Malformed
-        }
+    let mut ascii = true;
+    let mut i = start;
+    while i < end {
+        ascii = ascii & (text[i] < 0x80);
+        i += 1;
     }
+    ascii
 }
 
-pub fn is_boundary(state: Utf8State) -> bool
-    ensures { λ r. ⌜ r ≡ isBoundary state ⌝ }
+// Past the whole blocks of ASCII from `start` on.
+fn blocks_end(text: &[u8], start: usize) -> usize
+    requires { ⌜ start ≤ length (now text) ⌝ }
+    ensures { λ r. ⌜ Skips (now (text .entry)) start r ⌝ }
 {
-    match state {
-        Utf8State::Malformed => false,
-        Utf8State::Expecting(n, _, _) => n == 0,
+    let mut i = start;
+    while BLOCK <= text.len() - i && ascii_between(text, i, i + BLOCK) {
+        i += BLOCK;
+    }
+    i
+}
+
+// Past the ASCII bytes from `start` on.
+fn ascii_end(text: &[u8], start: usize) -> usize
+    requires { ⌜ start ≤ length (now text) ⌝ }
+    ensures { λ r. ⌜ Skips (now (text .entry)) start r ⌝ }
+{
+    let mut i = blocks_end(text, start);
+    while i < text.len() && text[i] < 0x80 {
+        i += 1;
+    }
+    i
+}
+
+fn within(low: u8, high: u8, b: u8) -> bool
+    ensures { λ r. ⌜ r ≡ within low high b ⌝ }
+{
+    (low <= b) & (b <= high)
+}
+
+// The `n` bytes at `i` are those that a character still expects, the first between two bounds.
+fn continued(text: &[u8], i: usize, n: u8, low: u8, high: u8) -> bool
+    requires { ⌜ (n ≤ 3) × (i + n ≤ length (now text)) ⌝ }
+    ensures { λ r. ⌜ utf8After n low high (drop i (now (text .entry))) ≡ (r && isUtf8 (drop (i + n) (now (text .entry)))) ⌝ }
+{
+    if n == 0 {
+        return true;
+    }
+    if !within(low, high, text[i]) {
+        return false;
+    }
+    if n == 1 {
+        return true;
+    }
+    if !within(0x80, 0xbf, text[i + 1]) {
+        return false;
+    }
+    if n == 2 {
+        return true;
+    }
+    within(0x80, 0xbf, text[i + 2])
+}
+
+// Past the character at `i`, or `i` where none is.
+fn character_end(text: &[u8], i: usize) -> usize
+    requires { ⌜ i < length (now text) ⌝ }
+    ensures { λ r. ⌜ Skips (now (text .entry)) i r × (r ≡ i → isUtf8 (drop i (now (text .entry))) ≡ false) ⌝ }
+{
+    match after_lead(text[i]) {
+        Utf8State::Malformed => i,
+        Utf8State::Expecting(n, low, high) => {
+            let more = n as usize;
+            if text.len() - i <= more {
+                return i;
+            }
+            if continued(text, i + 1, n, low, high) {
+                return i + 1 + more;
+            }
+            i
+        }
     }
 }
 
 pub fn is_utf8(text: &[u8]) -> bool
     ensures { λ r. ⌜ r ≡ isUtf8 (now (text .entry)) ⌝ }
 {
-    let mut state = Utf8State::Expecting(0, 0, 0);
     let mut i: usize = 0;
     while i < text.len() {
-        state = after_byte(state, text[i]);
-        i += 1;
+        if text[i] < 0x80 {
+            i = ascii_end(text, i + 1);
+        } else {
+            let end = character_end(text, i);
+            if end == i {
+                return false;
+            }
+            i = end;
+        }
     }
-    is_boundary(state)
+    true
 }
 
 // A character starts at byte `i`.

@@ -1,51 +1,54 @@
--- `fields::utf8::is_utf8` meets its contract. The loop's invariant: the state after the whole text is that after what is left of it. Assumes nothing.
-use Prim.Native.Nat.{_≤_, _-_}
-use mathlib.Core.Path.{_≡_, refl, sym, ap, _∙_}
-use mathlib.Core.List.{foldl}
-use lib.ListN.{length, drop}
-use Rattle.labels.specs.Utf8.{boundary, next, isBoundary, isUtf8}
-use Rattle.labels.proofs.Loops.{fold-turn, fold-done}
+-- `fields::utf8::is_utf8` meets its contract. The loop's invariant: the bytes so far are skipped. Assumes nothing.
+use Prim.Native.Nat.{_-_}
+use mathlib.Core.Path.{sym, _∙_}
+use lib.ListN.{length}
 use borrow.Author.Needs.{needs}
 use native.Mathlib.Omega.{arith}
+use Rattle.fields.specs.Skips.{Skips}
+use Rattle.fields.proofs.Skips.{no-skip, two-skips, ascii-skip, at-end}
 use Rattle.fields.proofs.utf8.is_utf8.Statement.{statement}
 use Rattle.fields.proofs.utf8.is_utf8.Tie as tie
 
 abbrev Inv-loop : tie.InvT-loop
-Inv-loop text state₀ i₀ state i = (i ≤ length text) × (foldl next state (drop i text) ≡ foldl next boundary text)
+Inv-loop text i₀ i = Skips text 0 i
 
 abbrev μ-loop : tie.MeasureT-loop
-μ-loop text state₀ i₀ state i = length text - i
+μ-loop text i₀ i = length text - i
 
 loop-holds : tie.Need-loop-holds Inv-loop μ-loop
-loop-holds c = (omega arith, refl)
+loop-holds c = no-skip _ _ (omega arith)
 
-shared-slice-read-after-byte : tie.Need-shared-slice-read-after-byte Inv-loop μ-loop
-shared-slice-read-after-byte c = search needs
+shared-slice-read-if1 : tie.Need-shared-slice-read-if1 Inv-loop μ-loop
+shared-slice-read-if1 c = search needs
 
-after-byte-requires : tie.Need-after-byte-requires Inv-loop μ-loop
-after-byte-requires c κs = search needs
+add-ascii-end : tie.Need-add-ascii-end Inv-loop μ-loop
+add-ascii-end c = search needs
 
-add-i : tie.Need-add-i Inv-loop μ-loop
-add-i c = search needs
+ascii-end-requires : tie.Need-ascii-end-requires Inv-loop μ-loop
+ascii-end-requires c κs = search needs
 
 loop-less : tie.Need-loop-less Inv-loop μ-loop
 loop-less c = search needs
 
 loop-again : tie.Need-loop-again Inv-loop μ-loop
 loop-again c =
-    let text = c .before .before .before .before .before .args .text .now in
-    let l = c .before .before .before .loop in
-    (omega arith, (rw (c .after-byte .ensures) (fold-turn next (l .state) text (l .i) 0 (omega arith) ∙ l .inv .1)))
+    let l = c .before .before .before .before .loop in
+    two-skips (two-skips (l .inv) (ascii-skip _ (l .i) (omega arith) (c .before .if1 .taken))) (c .ascii-end .ensures)
 
-is-boundary-requires : tie.Need-is-boundary-requires Inv-loop μ-loop
-is-boundary-requires c κs = search needs
+character-end-requires : tie.Need-character-end-requires Inv-loop μ-loop
+character-end-requires c κs = search needs
 
 returns : tie.Need-returns Inv-loop μ-loop
-unfolding isUtf8
-returns c =
-    let text = c .before .before .before .before .args .text .now in
-    let l = c .before .before .loop in
-    c .is-boundary .ensures ∙ ap isBoundary (sym (fold-done next (l .state) text (l .i) (omega arith)) ∙ l .inv .1)
+returns c = sym (c .before .character-end .ensures .1 (c .if2 .taken)) ∙ c .before .before .before .before .before .loop .inv .same
+
+loop-less-2 : tie.Need-loop-less-2 Inv-loop μ-loop
+loop-less-2 c = search needs
+
+loop-again-2 : tie.Need-loop-again-2 Inv-loop μ-loop
+loop-again-2 c = two-skips (c .before .before .before .before .before .loop .inv) (c .before .character-end .ensures .0)
+
+returns-2 : tie.Need-returns-2 Inv-loop μ-loop
+returns-2 c = sym (at-end (c .before .loop .inv) (omega arith))
 
 pub is-utf8-spec : {M : Type 1} → statement M
 is-utf8-spec =
@@ -54,10 +57,13 @@ is-utf8-spec =
     Inv-loop
     μ-loop
     loop-holds
-    shared-slice-read-after-byte
-    after-byte-requires
-    add-i
+    shared-slice-read-if1
+    add-ascii-end
+    ascii-end-requires
     loop-less
     loop-again
-    is-boundary-requires
-    returns)
+    character-end-requires
+    returns
+    loop-less-2
+    loop-again-2
+    returns-2)
