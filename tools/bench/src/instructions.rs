@@ -9,14 +9,16 @@ use crate::side::Side;
 const CALLS: u64 = 3;
 
 pub fn print() -> Result<(), Box<dyn Error>> {
-    println!("class               library       beside   share  beside");
+    println!("class               library       beside        floor   share  to floor  beside");
     for class in classes() {
         let library = counted(class.name, Side::Library)?;
         let beside = counted(class.beside.class, class.beside.side)?;
+        let floor = counted(class.name, Side::Floor)?;
         println!(
-            "{:<14} {library:>12} {beside:>12} {:>7.3}  {}",
+            "{:<14} {library:>12} {beside:>12} {floor:>12} {:>7.3} {:>9.2}  {}",
             class.name,
             library as f64 / beside as f64,
+            library as f64 / floor as f64,
             class.beside.name()
         );
     }

@@ -1,9 +1,9 @@
-//! Jobs whose text is cut into many spans, each with a text length.
+//! Jobs whose text is cut into many spans, each with a text length, and orders of their clusters.
 
 use oracle::job::{Glyph, Job, Span};
 use oracle::label::label;
 
-use crate::classes::one_span;
+use crate::jobs::one_span;
 
 const MOST_SPANS: usize = 32;
 
@@ -42,6 +42,11 @@ pub fn of_spans(spans: usize, order: Order) -> Job {
         Order::Mixed => mix(glyphs),
     }
     job
+}
+
+/// 1,024 clusters in mixed order, in one span.
+pub fn mixed() -> Job {
+    clear_lengths(of_spans(1, Order::Mixed))
 }
 
 /// Each span's clusters far from one another: place i holds that of byte 367 i modulo their number, a power of two.

@@ -1,9 +1,11 @@
-//! The library's time beside the Rust's. README.md says how to use it.
+//! The library's time beside the Rust's and that of plain C. README.md says how to use it.
 
 mod classes;
 #[path = "../../beside/src/encode.rs"]
 mod encode;
+mod floor;
 mod instructions;
+mod jobs;
 mod lengths;
 #[path = "../../beside/src/library.rs"]
 mod library;
@@ -20,7 +22,7 @@ const USAGE: &str = "\
 bench                         time a call, and how time grows
 bench instructions            instructions a call, counted by callgrind
 bench jobs DIR                each class as a file
-bench calls CLASS SIDE COUNT  only calls, for a profiler; SIDE is library or rust
+bench calls CLASS SIDE COUNT  only calls, for a profiler; SIDE is library, rust or floor
 ";
 
 type Done = Result<(), Box<dyn Error>>;

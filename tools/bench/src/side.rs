@@ -1,31 +1,35 @@
-//! The two sides behind one call.
+//! The three sides behind one call.
 
 use std::error::Error;
 
-use crate::classes::{classes, of_clusters};
+use crate::classes::classes;
 use crate::encode::encode;
+use crate::jobs::of_clusters;
 use crate::lengths::{of_spans, Order};
-use crate::library;
+use crate::{floor, library};
 
 #[derive(Clone, Copy, PartialEq)]
 pub enum Side {
     Library,
     Rust,
+    /// Plain C without proofs: as fast as the call can be, or nearly.
+    Floor,
 }
 
 impl Side {
+    const ALL: [Side; 3] = [Side::Library, Side::Rust, Side::Floor];
+
     pub fn name(self) -> &'static str {
         match self {
             Side::Library => "library",
             Side::Rust => "rust",
+            Side::Floor => "floor",
         }
     }
 
     pub fn named(name: &str) -> Result<Side, Box<dyn Error>> {
-        let found = [Side::Library, Side::Rust]
-            .into_iter()
-            .find(|side| side.name() == name);
-        Ok(found.ok_or("a side is library or rust")?)
+        let found = Side::ALL.into_iter().find(|side| side.name() == name);
+        Ok(found.ok_or("a side is library, rust or floor")?)
     }
 }
 
@@ -44,6 +48,7 @@ pub fn measured_call(side: Side, job: &[u8], answer: &mut [u8]) -> (u32, u32) {
             (returned.number, returned.length)
         }
         Side::Rust => plain::layout_text(job, answer),
+        Side::Floor => floor::call(job, answer),
     }
 }
 
@@ -51,21 +56,23 @@ pub fn call(side: Side, job: &[u8], answer: &mut [u8]) -> (u32, u32) {
     std::hint::black_box(measured_call(side, std::hint::black_box(job), answer))
 }
 
-/// The library gives the right answer to each job that is timed: the Rust's, or document 02's where the Rust has no such job.
+/// The library and the floor give the right answer to each job that is timed: the Rust's, or document 02's where the Rust has no such job.
 pub fn agree() -> Result<(), Box<dyn Error>> {
     let classes = classes().into_iter();
     let mut jobs: Vec<(Vec<u8>, Side)> = classes.map(|c| (c.job, c.beside.side)).collect();
     jobs.extend([64, 1_024].map(|clusters| (of_clusters(clusters), Side::Rust)));
     jobs.extend(Order::ALL.map(|order| (encode(&of_spans(32, order)), Side::Rust)));
     for (job, beside) in jobs {
-        let (mut one, mut other) = (buffer(&job), buffer(&job));
-        let returned = call(Side::Library, &job, &mut one);
-        let right = match beside {
-            Side::Rust => call(Side::Rust, &job, &mut other),
-            Side::Library => call_amended(&job, &mut other),
+        let mut right = buffer(&job);
+        let returned = match beside {
+            Side::Rust => call(Side::Rust, &job, &mut right),
+            _ => call_amended(&job, &mut right),
         };
-        if returned.0 != 0 || returned != right || one != other {
-            return Err("the sides differ; run tools/beside".into());
+        for side in [Side::Library, Side::Floor] {
+            let mut answer = buffer(&job);
+            if call(side, &job, &mut answer) != returned || returned.0 != 0 || answer != right {
+                return Err("the sides differ; run tools/beside and floor/agree".into());
+            }
         }
     }
     Ok(())

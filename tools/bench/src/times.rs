@@ -2,8 +2,9 @@
 
 use std::time::{Duration, Instant};
 
-use crate::classes::{classes, job_of, of_clusters};
+use crate::classes::{classes, job_of};
 use crate::encode::encode;
+use crate::jobs::of_clusters;
 use crate::lengths::{clear_lengths, of_spans, Order};
 use crate::side::{buffer, call, Side};
 
@@ -11,6 +12,8 @@ const ROUNDS: usize = 25;
 const ROUND: Duration = Duration::from_millis(4);
 const MOST_GROWTH: f64 = 2.2;
 const MOST_FOR_LENGTHS: f64 = 1.2;
+/// Of the library's time to the floor's.
+const MOST_OF_FLOOR: f64 = 2.0;
 
 /// The library's on a job, and what it stands beside.
 struct Times {
@@ -19,21 +22,26 @@ struct Times {
 }
 
 pub fn print_classes() -> Result<(), String> {
-    println!("class           job bytes   library ns    beside ns   share  target       beside");
+    println!(
+        "class           job bytes   library ns    beside ns     floor ns   share  target        to floor       beside"
+    );
     let classes = classes();
     for class in &classes {
         let other = job_of(&classes, class.beside.class)?;
-        let times = measure(&class.job, class.beside.side, other);
-        let share = times.library / times.beside;
+        let sides = [
+            (Side::Library, &class.job[..]),
+            (class.beside.side, other),
+            (Side::Floor, &class.job),
+        ];
+        let [library, beside, floor] = measure(sides);
+        let (share, ratio) = (library / beside, library / floor);
         println!(
-            "{:<14} {:>10} {:>12.0} {:>12.0} {:>7.3} {:>7} {}  {}",
+            "{:<14} {:>10} {library:>12.0} {beside:>12.0} {floor:>12.0} {share:>7.3} {:>7} {}  {ratio:>8.2} {}  {}",
             class.name,
             class.job.len(),
-            times.library,
-            times.beside,
-            share,
             class.target,
             verdict(share <= class.target),
+            verdict(ratio < MOST_OF_FLOOR),
             class.beside.name()
         );
     }
@@ -46,7 +54,7 @@ pub fn print_growth() {
     let mut last: Option<Times> = None;
     for count in [64, 128, 256, 512, 1_024] {
         let job = of_clusters(count);
-        let times = measure(&job, Side::Rust, &job);
+        let times = library_and(&job, Side::Rust, &job);
         print!("{count:>8} {:>12.0}", times.library);
         match &last {
             None => println!("         {:>12.0}", times.beside),
@@ -71,7 +79,7 @@ pub fn print_spans() {
         for count in [1, 2, 4, 8, 16, 32] {
             let job = of_spans(count, order);
             let without = encode(&clear_lengths(job.clone()));
-            let times = measure(&encode(&job), Side::Library, &without);
+            let times = library_and(&encode(&job), Side::Library, &without);
             let share = times.library / times.beside;
             println!(
                 "{count:>5}  {:<13} {:>12.0} {:>16.0} {share:>7.3} {:>15.0} {}",
@@ -93,23 +101,25 @@ fn verdict(held: bool) -> &'static str {
     }
 }
 
-fn measure(job: &[u8], beside: Side, other: &[u8]) -> Times {
-    let sides = [(Side::Library, job), (beside, other)];
+fn library_and(job: &[u8], beside: Side, other: &[u8]) -> Times {
+    let [library, beside] = measure([(Side::Library, job), (beside, other)]);
+    Times { library, beside }
+}
+
+/// Nanoseconds a call of each side with its job.
+fn measure<const N: usize>(sides: [(Side, &[u8]); N]) -> [f64; N] {
     let mut lent = sides.map(|(_, job)| buffer(job));
-    let mut calls = [0; 2];
+    let mut calls = [0; N];
     for (i, &(side, job)) in sides.iter().enumerate() {
         calls[i] = calls_in_a_round(side, job, &mut lent[i]);
     }
-    let mut best = [f64::INFINITY; 2];
+    let mut best = [f64::INFINITY; N];
     for _ in 0..ROUNDS {
         for (i, &(side, job)) in sides.iter().enumerate() {
             best[i] = best[i].min(round(side, job, &mut lent[i], calls[i]));
         }
     }
-    Times {
-        library: best[0],
-        beside: best[1],
-    }
+    best
 }
 
 fn calls_in_a_round(side: Side, job: &[u8], answer: &mut [u8]) -> usize {
