@@ -31,12 +31,20 @@ pub fn measure_u16(font: Font, size: f32, z: u16) -> f32
 }
 
 // For a glyph's width, which is within these bounds in a checked job: a cast is taken only of a whole number that is a float.
+// `by` is a scale.
+pub fn measure_at(by: f32, z: i32) -> f32
+    requires { ⌜ natAbs z ≤ 65_535 ⌝ }
+    ensures { λ r. ⌜ r ≡ ofInt binary32 z *ᶠ by ⌝ }
+{
+    z as f32 * by
+}
+
 // This is `measure` for every font of these units per em.
 pub fn measure_units(units: u16, size: f32, z: i32) -> f32
     requires { ⌜ natAbs z ≤ 65_535 ⌝ }
     ensures { λ r. ⌜ r ≡ ofInt binary32 z *ᶠ (size /ᶠ ofNat units) ⌝ }
 {
-    z as f32 * scale(units, size)
+    measure_at(scale(units, size), z)
 }
 
 // ---- the measures of a font row
