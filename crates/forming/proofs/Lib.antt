@@ -1,4 +1,5 @@
 pub mod Glyphs
+pub mod Kept
 pub mod FirstRun
 pub mod FewClusters
 pub mod NextRun

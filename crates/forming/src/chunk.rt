@@ -1,6 +1,10 @@
 // All clusters of a chunk.
+use crate::first::first_glyph;
 use crate::form::form_glyph_clusters;
+use crate::measures::next_measures;
+use crate::measures::no_measures;
 use crate::runs::index_in;
+use crate::runs::place_in;
 use crate::runs::run_end;
 use crate::spans::chunk_span_at;
 use clusters::put_cluster;
@@ -18,17 +22,20 @@ pub fn form_clusters(
     requires { ⌜ Formable (now s) (now spans) (now merged) (now floats) (now words) ⌝ }
     ensures { λ r. ⌜ FormedInto (now (s .entry)) fonts (now (spans .entry)) (now (merged .entry)) (now (floats .exit)) (now (words .exit)) r ⌝ }
 {
+    let mut m = no_measures(spans);
     let mut n: usize = 0;
     let mut i: usize = 0;
     while i < merged.len() {
         let end = run_end(s, merged, i);
         let k = chunk_span_at(s, spans, index_in(s, merged, i) as usize);
         if k < spans.len() {
+            let first = first_glyph(s, place_in(merged, i));
+            m = next_measures(s, fonts, spans, k, first.font, m);
             put_cluster(
                 floats,
                 words,
                 n,
-                form_glyph_clusters(s, fonts, spans, merged, i, end, k),
+                form_glyph_clusters(s, fonts, merged, i, end, k, first, m),
             );
             n += 1;
         }

@@ -1,28 +1,30 @@
 // One cluster, of the merged glyphs from one place to another.
-use crate::first::first_font;
-use crate::first::first_glyph;
+use crate::measures::Measures;
 use crate::runs::place_in;
-use job_rows::numbered::size_in;
 use job_rows::numbered::units_in;
 use job_rows::sizes::GLYPH_FONT_AT;
 use job_rows::sizes::GLYPH_WIDTH_AT;
 use labels::Cluster;
-use measure::ascent;
-use measure::descent;
+use labels::Glyph;
+use measure::measure_at;
 use measure::measure_units;
 use wire::read::i32_at;
 use wire::read::u8_at;
 ghost use mathlib.Core.Path.{_≡_};
 ghost use mathlib.Core.Bool.{true};
+ghost use mathlib.Core.List.{List};
 ghost use Prim.Native.Nat.{_<_, _≤_};
 ghost use lib.ListN.{drop};
+ghost use Rattle.labels.specs.declared.Span.{Span};
+ghost use Rattle.labels.specs.Job.{fontAt, spanAt};
 ghost use Rattle.labels.specs.Check.{unitsOk};
 ghost use Rattle.labels.specs.Decode.{glyphOf};
 ghost use Rattle.labels.specs.Single.{_+ᶠ_};
 ghost use Rattle.labels.specs.Kind.{greatest, glyphAdvance, sumAdvance, maxAdvance};
 ghost use Rattle.labels.specs.Cluster.{rounded, formGlyphClusters};
-ghost use Rattle.job_rows.specs.Rows.{fontsIn, spansIn};
+ghost use Rattle.job_rows.specs.Rows.{fontsIn};
 ghost use Rattle.forming.specs.Groups.{glyphIn, glyphsFrom, groupIn, Measurable};
+ghost use Rattle.forming.specs.Kept.{measuresAt};
 
 // The advance of the glyph whose row stands at `at`, of its own font.
 pub fn glyph_advance(s: &[u8], fonts: usize, at: usize, size: f32) -> f32
@@ -78,27 +80,25 @@ fn glyph_advances(
     all
 }
 
-// The cluster of the glyphs from place `from` to `end`, which the span of place `k` covers.
+// The cluster of the glyphs from place `from` to `end`, which the span of place `k` covers. The first glyph and the measures of its font and of
+// the span are given.
 pub fn form_glyph_clusters(
     s: &[u8],
     fonts: usize,
-    spans: &[usize],
     merged: &[u32],
     from: usize,
     end: usize,
     k: usize,
+    first: Glyph,
+    m: Measures,
 ) -> Cluster
-    requires { ⌜ Measurable (now s) (now merged) from end × (end ≤ 1_024) × (k < 256) ⌝ }
-    ensures { λ r. ⌜ (r ≡ formGlyphClusters (fontsIn (now (s .entry)) fonts) (spansIn (now (s .entry)) (now (spans .entry)))
-        (groupIn (now (s .entry)) (now (merged .entry)) from end k)) × (r .index < 65_536) ⌝ }
+    requires { ⌜ Measurable (now s) (now merged) from end × (end ≤ 1_024) × (k < 256) × (first ≡ glyphIn (now s) (now merged) from)
+        × (m ≡ measuresAt (fontAt (fontsIn (now s) fonts) (first .font)) (m .size) k (first .font)) ⌝ }
+    ensures { λ r. ⌜ ((spans : List Span) → m .size ≡ spanAt spans k .size
+        → r ≡ formGlyphClusters (fontsIn (now (s .entry)) fonts) spans (groupIn (now (s .entry)) (now (merged .entry)) from end k)) × (r .index < 65_536) ⌝ }
 {
-    let size = size_in(s, spans, k);
-    let first = first_glyph(s, place_in(merged, from));
-    let font = first_font(s, fonts, first.font);
-    let own = measure_units(font.units, size, first.width);
-    let advances = glyph_advances(s, fonts, merged, from, end, size, own);
-    let up = ascent(font, size);
-    let down = descent(font, size);
+    let own = measure_at(m.scale, first.width);
+    let advances = glyph_advances(s, fonts, merged, from, end, m.size, own);
     Cluster {
         index: first.index as u32,
         tag: first.tag,
@@ -113,8 +113,8 @@ pub fn form_glyph_clusters(
         width: advances.width,
         advance: advances.advance,
         spacing: 0.0,
-        ascent: up,
-        descent: down,
+        ascent: m.ascent,
+        descent: m.descent,
         nudge: 0.0,
         scale: 0.0,
         x: 0.0,

@@ -4,38 +4,42 @@ use Prim.Native.Nat.{ℕ, _-_, _≤_, _<_}
 use mathlib.Core.Path.{_≡_, refl, sym, ap, _∙_}
 use mathlib.Core.Bool.{true}
 use mathlib.Core.List.{map}
-use lib.ListN.{length, length-set}
+use lib.ListN.{length, length-set, drop}
 use lib.Dec.{ltb}
 use borrow.Author.Tests.{lt-ltb}
 use Rattle.labels.specs.Lists.{all}
+use Rattle.labels.specs.Decode.{glyphOf}
 use Rattle.labels.specs.Group.{groups}
 use Rattle.labels.specs.Cluster.{formGlyphClusters}
 use Rattle.clusters.specs.Clusters.{indexesIn}
 use Rattle.job_rows.specs.Rows.{fontsIn, spansIn, glyphsAt}
+use Rattle.forming.specs.Kept.{Kept}
 use Rattle.forming.proofs.Glyphs.{widths-part}
+use Rattle.forming.proofs.Kept.{kept, of-font, of-span}
 use Rattle.forming.proofs.Turns.{groupsFrom, Counted, Run, groups-start, groups-end, groups-kept, groups-passed, groups-room, groups-turn, groups-all, formed, formed-none, formed-all, formed-turn, indexes-none, indexes-turn}
 use borrow.Author.Needs.{needs}
 use Rattle.forming.proofs.chunk.form_clusters.Statement.{statement}
 use Rattle.forming.proofs.chunk.form_clusters.Tie as tie
 
 abbrev Inv-loop : tie.InvT-loop
-Inv-loop s fonts spans merged floats₀ words₀ n₀ i₀ floats words n i =
+Inv-loop s fonts spans merged floats₀ words₀ m₀ n₀ i₀ floats words m n i =
     let form = formGlyphClusters (fontsIn s fonts) (spansIn s spans) in
     (length floats ≡ length floats₀) × (length words ≡ length words₀) × (n ≤ i) × (i ≤ length merged)
     × Counted s spans merged n i
     × (formed form floats words n (groupsFrom s spans merged i) ≡ map form (groups (spansIn s spans) (glyphsAt s merged)))
     × (all (λ (i : ℕ). ltb i 65536) (indexesIn words n) ≡ true)
+    × Kept s fonts spans m
 
 abbrev μ-loop : tie.MeasureT-loop
-μ-loop s fonts spans merged floats₀ words₀ n₀ i₀ floats words n i = length merged - i
+μ-loop s fonts spans merged floats₀ words₀ m₀ n₀ i₀ floats words m n i = length merged - i
 
 -- the call, seen from the loop's head
 abbrev call : tie.At-loop Inv-loop μ-loop → tie.Start Inv-loop μ-loop
-call at = at .before .before .before .before
+call at = at .before .before .before .before .before
 
 -- where a span is found that covers the run, seen from where the cluster is stored
 abbrev covered : tie.After-words Inv-loop μ-loop → tie.Then1 Inv-loop μ-loop
-covered stored = stored .before .before .before .before .before .before
+covered stored = stored .before .before .before .before .before .before .before .before .before
 
 run-at : (c : tie.After-chunk-span-at Inv-loop μ-loop) →
     let ended = c .before .before in
@@ -59,9 +63,12 @@ room-at c =
     let room = groups-room (run-at (c .before)) (c .if1 .taken) (l .n) (l .inv .4) in
     (omega (arith, room, given .floatRows, l .inv .0), omega (arith, room, given .wordRows, l .inv .1))
 
+no-measures-requires : tie.Need-no-measures-requires Inv-loop μ-loop
+no-measures-requires c κs = search needs
+
 loop-holds : tie.Need-loop-holds Inv-loop μ-loop
 loop-holds c =
-    let a = c .before .before .before .args in
+    let a = c .before .before .before .before .args in
     let form = formGlyphClusters (fontsIn (a .s .now) (a .fonts)) (spansIn (a .s .now) (a .spans .now)) in
     let all-left = groups-start (a .s .now) (a .spans .now) (a .merged .now) in (
       refl,
@@ -71,6 +78,7 @@ loop-holds c =
       omega (arith, ap length all-left),
       formed-none form (a .floats .now) (a .words .now) (groupsFrom (a .s .now) (a .spans .now) (a .merged .now) 0) ∙ ap (map form) all-left,
       indexes-none _ (a .words .now),
+      (λ h. let z : ⊥ = omega (arith, c .no-measures .ensures) in absurd z),
     )
 
 run-end-requires : tie.Need-run-end-requires Inv-loop μ-loop
@@ -85,20 +93,35 @@ cast-chunk-span-at c = search needs
 chunk-span-at-requires : tie.Need-chunk-span-at-requires Inv-loop μ-loop
 chunk-span-at-requires c κs = search needs
 
+place-in-requires : tie.Need-place-in-requires Inv-loop μ-loop
+place-in-requires c κs = search needs
+
+first-glyph-requires : tie.Need-first-glyph-requires Inv-loop μ-loop
+first-glyph-requires c κs = search needs
+
+next-measures-requires : tie.Need-next-measures-requires Inv-loop μ-loop
+next-measures-requires c κs =
+    let turn = c .before .before in
+    (turn .before .before .before .before .before .loop .inv .7, turn .if1 .taken)
+
 form-glyph-clusters-requires : tie.Need-form-glyph-clusters-requires Inv-loop μ-loop
 form-glyph-clusters-requires c κs =
-    let h = c .before .before .if1 .taken in
-    let run = c .before .before .before .before .before .run-end .ensures in
-    let at = c .before .before .before .before .before .before .before in
+    let m = c .before .before .next-measures .ensures in
+    let read = c .before .before .before in
+    let turn = read .before .before in
+    let run = turn .before .before .before .run-end .ensures in
+    let at = turn .before .before .before .before .before in
     let a = call at .args in
     let given = call at .pre in (
       record { some = run .1; inside = run .2; widths = widths-part (a .s .now) (a .merged .now) _ (at .loop .i) (given .widths) },
       omega (arith, run .2, given .fewGlyphs),
-      omega (arith, h, given .fewSpans),
+      omega (arith, turn .if1 .taken, given .fewSpans),
+      read .first-glyph .ensures ∙ ap (λ (p : ℕ). glyphOf (drop p (a .s .now))) (read .before .place-in .ensures),
+      of-font (a .s .now) (a .fonts) (a .spans .now) m,
     )
 
 put-cluster-requires : tie.Need-put-cluster-requires Inv-loop μ-loop
-put-cluster-requires c κs = room-at (c .before .before .before)
+put-cluster-requires c κs = room-at (c .before .before .before .before .before .before)
 
 add-n : tie.Need-add-n Inv-loop μ-loop
 add-n c =
@@ -114,20 +137,23 @@ loop-again : tie.Need-loop-again Inv-loop μ-loop
 loop-again c =
     let put = c .before .before .put-cluster .ensures in
     let r = c .before .before .before .form-glyph-clusters in
+    let m = c .before .before .before .before .before .before .next-measures .ensures in
     let h = covered c .if1 .taken in
     let room = room-at (covered c) in
     let run = run-at (covered c .before) in
     let at = covered c .before .before .before .before .before in
     let a = call at .args in
     let l = at .loop in
-    let form = formGlyphClusters (fontsIn (a .s .now) (a .fonts)) (spansIn (a .s .now) (a .spans .now)) in (
+    let form = formGlyphClusters (fontsIn (a .s .now) (a .fonts)) (spansIn (a .s .now) (a .spans .now)) in
+    let cluster = r .ensures .0 (spansIn (a .s .now) (a .spans .now)) (of-span (a .s .now) (a .fonts) (a .spans .now) m) in (
       rw (put .0, length-set (l .floats)) (l .inv .0),
       rw (put .1, length-set (l .words)) (l .inv .1),
       omega (arith, l .inv .2, run .ends .1),
       run .ends .2,
       groups-turn run h (l .n) (l .inv .4),
-      formed-turn (l .floats) (l .words) (l .n) (r .result) (put .0) (put .1) (room .1) form (r .ensures .0) (groups-kept run h) (room .0) ∙ l .inv .5,
+      formed-turn (l .floats) (l .words) (l .n) (r .result) (put .0) (put .1) (room .1) form cluster (groups-kept run h) (room .0) ∙ l .inv .5,
       indexes-turn (l .floats) (l .words) (l .n) (r .result) (put .0) (put .1) (room .1) _ (lt-ltb _ _ (r .ensures .1)) (l .inv .6),
+      kept (a .s .now) (a .fonts) (a .spans .now) m,
     )
 
 loop-less-2 : tie.Need-loop-less-2 Inv-loop μ-loop
@@ -150,6 +176,7 @@ loop-again-2 c =
       rw next at (l .inv .4),
       ap (formed form (l .floats) (l .words) (l .n)) (sym next) ∙ l .inv .5,
       l .inv .6,
+      l .inv .7,
     )
 
 same-length : tie.Need-same-length Inv-loop μ-loop
@@ -177,11 +204,15 @@ form-clusters-spec =
     (tie.spec
     Inv-loop
     μ-loop
+    no-measures-requires
     loop-holds
     run-end-requires
     index-in-requires
     cast-chunk-span-at
     chunk-span-at-requires
+    place-in-requires
+    first-glyph-requires
+    next-measures-requires
     form-glyph-clusters-requires
     put-cluster-requires
     add-n
