@@ -10,8 +10,11 @@ use labels::Cluster;
 use labels::script_supports_letter_spacing;
 ghost use mathlib.Core.Path.{_≡_};
 ghost use mathlib.Core.Bool.{cond};
+ghost use mathlib.Core.List.{List};
 ghost use Prim.Native.Nat.{_<_, _≤_};
 ghost use lib.ListN.{length, set};
+ghost use Rattle.labels.specs.declared.Span.{Span};
+ghost use Rattle.labels.specs.Job.{spanAt};
 ghost use Rattle.labels.specs.Cluster.{rounded};
 ghost use Rattle.labels.specs.Spacing.{settled, letterSpaced, nextLetterSpaced, applyLetterSpacing};
 ghost use Rattle.job_rows.specs.Rows.{spansIn};
@@ -42,11 +45,37 @@ pub fn letter_spaced(letter: f32, last: bool, c: Cluster) -> Cluster
     settled(spaced(c, letter))
 }
 
-// The next cluster, of which `left` are still to come, itself counted.
-fn next_letter_spaced(s: &[u8], spans: &[usize], left: usize, c: Cluster) -> Cluster
-    ensures { λ r. ⌜ r ≡ nextLetterSpaced rounded (spansIn (now (s .entry)) (now (spans .entry))) left c ⌝ }
+// The letter spacing of the span of place `span`. Neighbours nearly always have one span, so that it is kept.
+struct Kept {
+    span: u32,
+    letter: f32,
+}
+
+// Of the span of place `k`.
+fn letter_in(s: &[u8], spans: &[usize], k: u32) -> Kept
+    ensures { λ r. ⌜ (r .span ≡ k) × (r .letter ≡ spanAt (spansIn (now (s .entry)) (now (spans .entry))) k .letter) ⌝ }
 {
-    let letter = spacing_in(s, spans, c.span, Spacing::Letter);
+    Kept {
+        span: k,
+        letter: spacing_in(s, spans, k, Spacing::Letter),
+    }
+}
+
+// The same, taken from `last` if that is of this span.
+fn next_letter(s: &[u8], spans: &[usize], k: u32, last: Kept) -> Kept
+    requires { ⌜ last .letter ≡ spanAt (spansIn (now s) (now spans)) (last .span) .letter ⌝ }
+    ensures { λ r. ⌜ (r .span ≡ k) × (r .letter ≡ spanAt (spansIn (now (s .entry)) (now (spans .entry))) k .letter) ⌝ }
+{
+    if last.span == k {
+        return last;
+    }
+    letter_in(s, spans, k)
+}
+
+// The next cluster, of which `left` are still to come, itself counted. Its span's letter spacing is given.
+fn next_letter_spaced(letter: f32, left: usize, c: Cluster) -> Cluster
+    ensures { λ r. ⌜ ((spans : List Span) → letter ≡ spanAt spans (c .span) .letter → r ≡ nextLetterSpaced rounded spans left c) ⌝ }
+{
     if script_supports_letter_spacing(c.tag) {
         return letter_spaced(letter, left == 1, c);
     }
@@ -80,10 +109,12 @@ pub fn apply_letter_spacing(
     if !any_spacing(s, spans, Spacing::Letter) {
         return;
     }
+    let mut kept = letter_in(s, spans, 0);
     let mut i: usize = 0;
     while i < n {
         let c = cluster_at(floats, words, i);
-        let d = next_letter_spaced(s, spans, n - i, c);
+        kept = next_letter(s, spans, c.span, kept);
+        let d = next_letter_spaced(kept.letter, n - i, c);
         put_spaced(floats, words, i, d);
         i += 1;
     }

@@ -2,18 +2,13 @@
 use mathlib.Core.Path.{_≡_, sym, ap, _∙_}
 use lib.Dec.{eqb}
 use lib.Ieee.{Float}
-use Rattle.labels.specs.Job.{spanAt}
 use Rattle.labels.specs.Script.{scriptSupportsLetterSpacing}
 use Rattle.labels.specs.Cluster.{rounded}
 use Rattle.labels.specs.Spacing.{letterSpaced, nextLetterSpaced}
-use Rattle.job_rows.specs.Rows.{spansIn}
 use borrow.Author.Needs.{needs}
 use Rattle.spacing.proofs.Tests.{cond-true, cond-false}
 use Rattle.spacing.proofs.letter.next_letter_spaced.Statement.{statement}
 use Rattle.spacing.proofs.letter.next_letter_spaced.Tie as tie
-
-spacing-in-requires : tie.Need-spacing-in-requires
-spacing-in-requires c κs = search needs
 
 script-supports-letter-spacing-requires : tie.Need-script-supports-letter-spacing-requires
 script-supports-letter-spacing-requires c κs = search needs
@@ -23,21 +18,19 @@ letter-spaced-requires c κs = search needs
 
 returns : tie.Need-returns
 unfolding nextLetterSpaced
-returns c =
+returns c spans own =
     let script = c .before .before in
-    let read = script .before .spacing-in in
-    let a = script .before .before .before .before .args in
+    let a = script .before .args in
     let test = script .script-supports-letter-spacing in
-    let spaced : c .letter-spaced .result ≡ letterSpaced rounded (read .result) (eqb (a .left) 1) (a .c) = c .letter-spaced .ensures in
-    let own : read .result ≡ spanAt (spansIn (a .s .now) (a .spans .now)) (a .c .span) .letter = read .ensures in
+    let spaced : c .letter-spaced .result ≡ letterSpaced rounded (a .letter) (eqb (a .left) 1) (a .c) = c .letter-spaced .ensures in
     spaced ∙ ap (λ (letter : Float). letterSpaced rounded letter (eqb (a .left) 1) (a .c)) own
     ∙ sym (cond-true (scriptSupportsLetterSpacing (a .c .tag)) _ _ (test .ensures) (c .before .if1 .taken))
 
 returns-2 : tie.Need-returns-2
 unfolding nextLetterSpaced
-returns-2 c =
+returns-2 c spans own =
     let script = c .before in
-    let a = script .before .before .before .before .args in
+    let a = script .before .args in
     let test = script .script-supports-letter-spacing in
     sym (cond-false (scriptSupportsLetterSpacing (a .c .tag)) _ _ (test .ensures) (c .if1 .left))
 
@@ -45,7 +38,6 @@ pub next-letter-spaced-spec : {M : Type 1} → statement M
 next-letter-spaced-spec =
     tie.close
     (tie.spec
-    spacing-in-requires
     script-supports-letter-spacing-requires
     letter-spaced-requires
     returns
