@@ -1,13 +1,13 @@
 -- A settled chunk is laid out, whatever came before it. Assumes nothing.
 use Prim.Native.Nat.{ℕ, _+_, _≤_, _<_}
 use mathlib.Core.Path.{_≡_, refl, sym, ap, _∙_}
-use mathlib.Core.Bool.{Bool, true, false, cond, not, _&&_, _||_}
+use mathlib.Core.Bool.{Bool, true, false, cond, not, _&&_}
 use mathlib.Core.List.{List, [], _∷_, foldl}
 use native.Mathlib.Omega.{arith}
 use borrow.Author.Tests.{le-leb, lt-leb, leb-true}
 use lib.ListN.{length}
 use lib.Dec.{leb, eqb}
-use Rattle.laws.proofs.All.{and-left, and-right}
+use Rattle.laws.proofs.All.{neither, and-left, and-right}
 use Rattle.laws.proofs.Tests.{failed}
 use Rattle.labels.specs.Outcome.{Outcome, given, andThen}
 use Rattle.labels.specs.Lists.{any}
@@ -22,10 +22,6 @@ use Rattle.merge.specs.Source.{glyphSpan, spanGlyphs}
 use Rattle.merge.proofs.Alone.{parts-length, alone-merged}
 use Rattle.chunk.proofs.Checked.{spans-of}
 use Rattle.chunk.specs.Settled.{stretches, settled}
-
-either-false : (a b : Bool) → (a || b) ≡ false → (a ≡ false) × (b ≡ false)
-either-false false b h = (refl, h)
-either-false true b h = let z : _≡_ {A = ℕ} 0 1 = cc h in absurd (omega arith)
 
 -- a span that is not stretched is not refused
 plain-given : (s : Span) (cs : List Cluster) → stretches s ≡ false → (ds : List Cluster) × (adjustSpan (given cs) s ≡ given ds)
@@ -42,7 +38,7 @@ plain-adjusted : (ss : List Span) (cs : List Cluster) → any stretches ss ≡ f
 unfolding any
 plain-adjusted [] cs h = (cs, refl)
 plain-adjusted (s ∷ ss) cs h =
-    let each = either-false (stretches s) (any stretches ss) h in
+    let each = neither (stretches s) (any stretches ss) h in
     let one = plain-given s cs (each .0) in
     let others = plain-adjusted ss (one .0) (each .1) in
     (others .0, rw (one .1) (others .1))

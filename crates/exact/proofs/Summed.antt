@@ -1,12 +1,12 @@
 -- What step 6 leaves to step 7, in a chunk with a text length and in one without. Assumes nothing.
 use Prim.Native.Nat.{ℕ, _+_, _*_, _≤_}
 use mathlib.Core.Path.{_≡_, refl, ap, subst, sym}
-use mathlib.Core.Bool.{Bool, true, false, _||_}
+use mathlib.Core.Bool.{false}
 use mathlib.Core.List.{List, [], _∷_, map, foldl}
 use native.Mathlib.Nat.{le-trans, le-of-eq, mul-le-mul-right, mul-le-mul-left}
 use native.Mathlib.Omega.{arith}
 use lib.ListN.{length, length-map}
-use Rattle.laws.proofs.All.{All}
+use Rattle.laws.proofs.All.{All, fold-skips}
 use Rattle.labels.specs.declared.Font.{Font}
 use Rattle.labels.specs.declared.Span.{Span}
 use Rattle.labels.specs.declared.Cluster.{Cluster}
@@ -48,19 +48,13 @@ adjusted-summed {g = g} {from = from} a h =
 
 -- ---- without one: step 6 leaves both lists as they are
 
-neither : (b c : Bool) → (b || c) ≡ false → (b ≡ false) × (c ≡ false)
-neither true c e = let z : _≡_ {A = ℕ} 0 1 = cc in absurd (omega arith)
-neither false c e = (refl, e)
-
 pub plain-floats : (ss : List Span) → any hasLength ss ≡ false → (cs : List Cluster) → foldl adjustSpan (given cs) ss ≡ given cs
-unfolding any adjustSpan
-plain-floats [] e cs = refl
-plain-floats (s ∷ ss) e cs = let f = neither (hasLength s) (any hasLength ss) e in rw (f .0) (plain-floats ss (f .1) cs)
+unfolding adjustSpan
+plain-floats ss e cs = fold-skips hasLength adjustSpan (given cs) (λ s f. rw f) ss e
 
 pub plain-fractions : (ss : List Span) → any hasLength ss ≡ false → (qs : List ExactCluster) → foldl adjustSpanExactly qs ss ≡ qs
-unfolding any adjustSpanExactly
-plain-fractions [] e qs = refl
-plain-fractions (s ∷ ss) e qs = let f = neither (hasLength s) (any hasLength ss) e in rw (f .0) (plain-fractions ss (f .1) qs)
+unfolding adjustSpanExactly
+plain-fractions ss e qs = fold-skips hasLength adjustSpanExactly qs (λ s f. rw f) ss e
 
 module _ {fonts : List Font} (spans : List Span) {K D S : ℕ} (frame : Frame fonts K D S) where
   masses : (qs : List ExactCluster) → sumOf (λ k. k .a) (map (cellOf spans frame) qs) ≡ bodiesMass spans frame qs

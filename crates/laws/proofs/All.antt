@@ -1,13 +1,14 @@
 -- What holds of all elements of a list, of all conditions, of all records that are read; and what folds and branches keep. Assumes nothing.
 use Prim.Native.Nat.{ℕ, zero, suc, _<_}
 use native.Mathlib.Nat.{le-of-suc-le-suc, not-suc-le-zero}
+use native.Mathlib.Omega.{arith}
 use mathlib.Core.Path.{_≡_, refl}
-use mathlib.Core.Bool.{Bool, true, false, cond, _&&_}
+use mathlib.Core.Bool.{Bool, true, false, cond, _&&_, _||_}
 use mathlib.Core.List.{List, [], _∷_, _++_, map, foldl}
 use lib.ListN.{length, take, drop, set, getD}
 use lib.Dec.{T}
 use lib.Ieee.Fits.{and-l, and-r}
-use Rattle.labels.specs.Lists.{all, every, modify, scan}
+use Rattle.labels.specs.Lists.{all, any, every, modify, scan}
 use Rattle.labels.specs.Bytes.{rows}
 
 pub data All {A : Type 0} (P : A → Type 0) : List A → Type 0 where
@@ -111,6 +112,18 @@ fold-keeps P f h b p (x ∷ xs) = fold-keeps P f h (f b x) (h b x p) xs
 pub cond-keeps : {A : Type 0} (P : A → Type 0) (b : Bool) {x y : A} → P x → P y → P (cond b x y)
 cond-keeps P true p q = p
 cond-keeps P false p q = q
+
+-- ---- tests that hold of none
+
+pub neither : (a b : Bool) → (a || b) ≡ false → (a ≡ false) × (b ≡ false)
+neither false b e = (refl, e)
+neither true b e = let z : _≡_ {A = ℕ} 0 1 = cc in absurd (omega arith)
+
+-- a fold whose steps do nothing there
+pub fold-skips : {A B : Type 0} (p : A → Bool) (f : B → A → B) (b : B) → ((x : A) → p x ≡ false → f b x ≡ b) → (xs : List A) → any p xs ≡ false → foldl f b xs ≡ b
+unfolding any
+fold-skips p f b h [] e = refl
+fold-skips p f b h (x ∷ xs) e = let each = neither (p x) (any p xs) e in rw (h x (each .0)) (fold-skips p f b h xs (each .1))
 
 -- ---- tests that hold of all
 
