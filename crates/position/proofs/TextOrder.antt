@@ -7,7 +7,7 @@ use mathlib.Core.List.{List, [], _∷_, _++_, foldl}
 use lib.ListN.{length, getD, take, drop, length-append, length-map, take-append-drop, drop-of-length-le}
 use lib.Seq.{append-snoc, drop-cons, getD-at, getD-take, length-take-le}
 use lib.Dec.{leb}
-use Rattle.laws.proofs.All.{All, first, all-drop, cond-keeps}
+use Rattle.laws.proofs.All.{All, first, all-drop, all-weaken, cond-keeps}
 use Rattle.job_rows.proofs.ByNumber.{map-in}
 use Rattle.labels.specs.Position.{Entry, entries, insert, logicalOrder, firstPlace, lastPlace, characterNumber}
 use Rattle.clusters.specs.Clusters.{indexesIn}
@@ -42,6 +42,27 @@ all-inserted ps (All.more {x = e} q qs) = all-inserted (all-insert e q ps) qs
 order-stands : (is : List ℕ) → All (Stands is) (logicalOrder is)
 unfolding logicalOrder
 order-stands is = all-inserted All.none (entries-stand is is [] 0 refl refl)
+
+-- the first and the last of an order are of the list, if it has any
+first-inside : (n : ℕ) → 0 < n → {es : List Entry} → All (λ e. e .place < n) es → firstPlace es < n
+unfolding firstPlace
+first-inside n h All.none = h
+first-inside n h (All.more p ps) = p
+
+last-inside : (n k : ℕ) → k < n → {es : List Entry} → All (λ e. e .place < n) es → foldl (λ (k : ℕ) (e : Entry). e .place) k es < n
+last-inside n k h All.none = h
+last-inside n k h (All.more {x = e} p ps) = last-inside n (e .place) p ps
+
+module _ (is : List ℕ) (h : 0 < length is) where
+  inside-all : All (λ e. e .place < length is) (logicalOrder is)
+  inside-all = all-weaken (λ e s. s .inside) (order-stands is)
+
+  pub order-first : firstPlace (logicalOrder is) < length is
+  order-first = first-inside (length is) h inside-all
+
+  pub order-last : lastPlace (logicalOrder is) < length is
+  unfolding lastPlace
+  order-last = last-inside (length is) 0 h inside-all
 
 -- ---- the entry at place i of the order, by its key
 

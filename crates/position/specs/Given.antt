@@ -6,8 +6,12 @@ use lib.ListN.{length, take}
 use lib.Ieee.{Float}
 use Rattle.labels.specs.declared.Cluster.{Cluster}
 use Rattle.labels.specs.Job.{Job, Chunk}
+use Rattle.labels.specs.Lists.{atOr}
+use Rattle.labels.specs.Single.{+0}
+use Rattle.labels.specs.Kind.{indexes}
+use Rattle.labels.specs.Cluster.{rounded}
 use Rattle.labels.specs.Position as labels
-use Rattle.labels.specs.Position.{characterNumber}
+use Rattle.labels.specs.Position.{Entry, logicalOrder, firstPlace, lastPlace, characterNumber}
 use Rattle.labels.specs.Layout.{resolveClustersPositionsHorizontal}
 use Rattle.clusters.specs.Clusters.{clustersOf, indexesIn}
 use Rattle.position.specs.declared.Extent.{Extent}
@@ -22,6 +26,19 @@ pub record Placeable (numbers : List ℕ) (floats : List (List Float)) (n : ℕ)
   pub some : 0 < n
   pub rows : n ≤ length floats
   pub numbered : n ≤ length numbers
+
+-- the clusters' text order
+abbrev pub orderOf : List Cluster → List Entry
+orderOf cs = logicalOrder (indexes rounded cs)
+
+-- there are n clusters, at least one, each with its rows, and two have the shifts of the first and the last of them in text order
+pub record Ended (first last : Cluster) (floats : List (List Float)) (words : List (List ℕ)) (n : ℕ) : Type 0 where
+  pub some : 0 < n
+  pub floatRows : n ≤ length floats
+  pub wordRows : n ≤ length words
+  pub firstX : atOr +0 (λ (c : Cluster). c .x) (clustersOf floats words n) (firstPlace (orderOf (clustersOf floats words n))) ≡ first .x
+  pub lastX : atOr +0 (λ (c : Cluster). c .x) (clustersOf floats words n) (lastPlace (orderOf (clustersOf floats words n))) ≡ last .x
+  pub lastY : atOr +0 (λ (c : Cluster). c .y) (clustersOf floats words n) (lastPlace (orderOf (clustersOf floats words n))) ≡ last .y
 
 abbrev pub extentIn : Extent → labels.Extent Float
 extentIn e = record { left = e .left; right = e .right; advance = e .advance }

@@ -8,6 +8,7 @@ use crate::shifts::turn_shifts;
 use crate::shifts::with_shift;
 use clusters::cluster_at;
 use clusters::put_floats;
+use labels::Cluster;
 use labels::Job;
 ghost use mathlib.Core.Path.{_≡_};
 ghost use mathlib.Core.List.{foldl};
@@ -18,7 +19,7 @@ ghost use Rattle.labels.specs.Cluster.{rounded};
 ghost use Rattle.clusters.specs.Clusters.{clustersOf};
 ghost use Rattle.job_rows.specs.Rows.{jobAt};
 ghost use Rattle.text_order.specs.Ordered.{Ordered};
-ghost use Rattle.position.specs.Given.{Placeable, Placed, PlacedChunk};
+ghost use Rattle.position.specs.Given.{Ended, Placeable, Placed, PlacedChunk};
 
 pub fn process_anchor(anchor: u8, width: f32) -> f32
     ensures { λ r. ⌜ r ≡ processAnchor rounded anchor width ⌝ }
@@ -49,7 +50,31 @@ pub fn place_from(start: f32, floats: &mut [[f32; 10]], words: &[[u32; 6]], n: u
     x
 }
 
-// The clusters have their shifts. First and last are those in text order.
+// The clusters have their shifts. `first` and `last` have those of the first and the last in text order.
+pub fn positioned_between(
+    anchor: u8,
+    first: Cluster,
+    last: Cluster,
+    floats: &mut [[f32; 10]],
+    words: &[[u32; 6]],
+    n: usize,
+) -> Positioned
+    requires { ⌜ Ended first last (now floats) (now words) n ⌝ }
+    ensures { λ r. ⌜ Placed (positioned rounded anchor (clustersOf (now (floats .entry)) (now (words .entry)) n))
+        (clustersOf (now (floats .exit)) (now (words .entry)) n) r ⌝ }
+{
+    let e = extent_of(floats, words, n);
+    let extent = e.right - e.left;
+    let start = first.x - e.left + process_anchor(anchor, extent);
+    let x = place_from(start, floats, words, n);
+    Positioned {
+        extent: extent,
+        end_x: x + last.x,
+        end_y: last.y,
+    }
+}
+
+// First and last are those in text order, found by its keys.
 pub fn positioned(
     anchor: u8,
     order: &[u32],
@@ -61,20 +86,12 @@ pub fn positioned(
     ensures { λ r. ⌜ Placed (positioned rounded anchor (clustersOf (now (floats .entry)) (now (words .entry)) n))
         (clustersOf (now (floats .exit)) (now (words .entry)) n) r ⌝ }
 {
-    let e = extent_of(floats, words, n);
-    let extent = e.right - e.left;
     let first_place = place_at(order, 0);
     let first = cluster_at(floats, words, first_place);
     let end = n - 1;
     let last_place = place_at(order, end);
     let last = cluster_at(floats, words, last_place);
-    let start = first.x - e.left + process_anchor(anchor, extent);
-    let x = place_from(start, floats, words, n);
-    Positioned {
-        extent: extent,
-        end_x: x + last.x,
-        end_y: last.y,
-    }
+    positioned_between(anchor, first, last, floats, words, n)
 }
 
 // Of a chunk that has clusters.
