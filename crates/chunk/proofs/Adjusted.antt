@@ -1,16 +1,20 @@
--- Steps 2 to 6 on the tables are the definitions', they keep the text order, and what step 6 answers is what the chunk answers. Assumes nothing.
+-- Steps 2 to 6 on the tables are the definitions', they keep the byte indexes, and what step 6 answers is what the chunk answers. Assumes nothing.
 use Prim.Native.Nat.{ℕ, _≤_}
 use mathlib.Core.Path.{_≡_, refl, sym, ap, _∙_}
+use mathlib.Core.Bool.{Bool, false}
 use mathlib.Core.List.{List, map}
 use lib.ListN as listN
 use lib.Ieee.{Float}
+use Rattle.laws.proofs.All.{fold-skips}
 use Rattle.labels.specs.Outcome.{Outcome, refused, given}
+use Rattle.labels.specs.Lists.{any}
 use Rattle.labels.specs.declared.Span.{Span}
 use Rattle.labels.specs.declared.Cluster.{Cluster}
+use Rattle.labels.specs.Job.{hasLength}
 use Rattle.labels.specs.Kind.{indexes}
 use Rattle.labels.specs.Group.{groups}
 use Rattle.labels.specs.Spacing.{applyLetterSpacing, applyWordSpacing}
-use Rattle.labels.specs.Cluster.{rounded, formGlyphClusters, applyWritingMode, applyLengthAdjust}
+use Rattle.labels.specs.Cluster.{rounded, formGlyphClusters, applyWritingMode, adjustSpan, applyLengthAdjust}
 use Rattle.labels.specs.Layout.{collapsedClusters, adjustedClusters}
 use Rattle.job_rows.specs.Rows.{fontsIn, spansIn, glyphsAt}
 use Rattle.clusters.specs.Clusters.{clustersOf, indexesIn}
@@ -56,6 +60,11 @@ unfolding adjustedOf
 done-kept floats floats′ words words′ n p q p′ q′ spans r e is = adjusted-order floats words floats′ words′ n p q p′ q′ spans (rw e at is)
 
 -- ---- what step 6 answers
+
+-- where no span has a text length it leaves the clusters as they are
+pub unadjusted : {b : Bool} (spans : List Span) (cs : List Cluster) → b ≡ any hasLength spans → b ≡ false → adjustedOf Done cs ≡ applyLengthAdjust spans cs
+unfolding adjustedOf applyLengthAdjust adjustSpan
+unadjusted spans cs told none = sym (fold-skips hasLength adjustSpan (given cs) (λ s e. rw e) spans (sym told ∙ none))
 
 module _ (r : Adjusted) (cs : List Cluster) {o : Outcome (List Cluster)} (is : adjustedOf r cs ≡ o) where
   pub done-given : r ≡ Done → o ≡ given cs

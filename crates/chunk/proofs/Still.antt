@@ -1,20 +1,24 @@
--- In a still job the clusters that are turned and placed are those of step 7. Assumes nothing.
-use Prim.Native.Nat.{ℕ}
+-- In a still job the clusters that are turned have one shift, and placed they are those of step 7. Assumes nothing.
+use Prim.Native.Nat.{ℕ, _≤_, _<_}
 use mathlib.Core.Path.{_≡_, refl, sym, _∙_}
 use mathlib.Core.Bool.{Bool, true, _&&_}
 use mathlib.Core.List.{List, [], _∷_}
-use lib.ListN.{drop}
+use lib.ListN.{length, drop, getD}
+use lib.Ieee.{Float}
 use Rattle.laws.proofs.All.{All, and-left, and-right}
 use Rattle.laws.proofs.Unmoved.{Unmoved}
-use Rattle.laws.proofs.StillJob.{unmoved-placed}
+use Rattle.laws.proofs.StillJob.{turned-alike, unmoved-placed}
 use Rattle.labels.specs.Lists.{isEmpty}
+use Rattle.labels.specs.Single.{+0}
 use Rattle.labels.specs.declared.Cluster.{Cluster}
 use Rattle.labels.specs.Position.{positioned, turnShifts}
 use Rattle.labels.specs.Cluster.{rounded}
 use Rattle.labels.specs.Layout.{resolveClustersPositionsHorizontal}
 use Rattle.job_rows.specs.Head.{headOf}
+use Rattle.clusters.specs.Clusters.{clusterOf, clustersOf}
 use Rattle.position.specs.declared.Positioned.{Positioned}
-use Rattle.position.specs.Given.{Placed}
+use Rattle.position.specs.Given.{Ended, Placed}
+use Rattle.position.proofs.Ends.{alike-ended}
 use Rattle.chunk.specs.declared.progress.NextChunk.{NextChunk}
 use Rattle.chunk.specs.Steps.{chunkIn, jobIn}
 use Rattle.chunk.specs.Placing.{isStill}
@@ -24,6 +28,12 @@ none-in : {A : Type 0} (xs : List A) → isEmpty xs ≡ true → xs ≡ []
 unfolding isEmpty
 none-in [] e = refl
 none-in (x ∷ xs) e = cc
+
+-- any cluster has the shift of the first and the last
+pub still-ended : (mode : ℕ) {cs : List Cluster} {floats : List (List Float)} {words : List (List ℕ)} {n : ℕ} → All Unmoved cs
+    → clustersOf floats words n ≡ turnShifts rounded mode cs → 0 < n → n ≤ length floats → n ≤ length words
+    → (any : Cluster) → any ≡ clusterOf (getD floats 0 []) (getD words 0 []) → Ended any any floats words n
+still-ended mode k e h p q any is = let alike = turned-alike mode k in alike-ended {x = +0} {y = alike .0} (rw e (alike .1)) h p q any is
 
 pub still-placed : (s : List ℕ) (next : NextChunk) {b : Bool} → b ≡ isStill (jobIn s next) → b ≡ true
     → {cs turned placed : List Cluster} {anchor : ℕ} {r : Positioned} → All Unmoved cs → anchor ≡ headOf (drop (next .at) s) .anchor

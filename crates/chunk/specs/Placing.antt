@@ -1,4 +1,4 @@
--- What step 7 is given of a chunk that has clusters, and the jobs in which it moves none of them. Definitions only.
+-- What steps 6 and 7 are given of a chunk, and the jobs in which step 7 moves no cluster. Definitions only.
 use Prim.Native.Nat.{ℕ, _+_, _≤_, _<_}
 use mathlib.Core.Path.{_≡_}
 use mathlib.Core.Bool.{Bool, _&&_}
@@ -10,7 +10,7 @@ use Rattle.laws.proofs.Unmoved.{Unmoved}
 use Rattle.labels.specs.Lists.{isEmpty}
 use Rattle.labels.specs.Job.{Job}
 use Rattle.clusters.specs.Clusters.{clustersOf}
-use Rattle.text_order.specs.Ordered.{Ordered}
+use Rattle.text_order.specs.Ordered.{Sortable}
 use Rattle.chunk.specs.declared.progress.NextChunk.{NextChunk}
 use Rattle.chunk.specs.Steps.{chunkIn}
 
@@ -18,12 +18,19 @@ use Rattle.chunk.specs.Steps.{chunkIn}
 abbrev pub isStill : Job → Bool
 isStill job = (isEmpty (job .dx) && isEmpty (job .dy)) && isEmpty (job .rotate)
 
--- n clusters, at least one, as steps 2 to 6 leave them: in text order, none moved. The text is the chunk's, and short
+-- n clusters as steps 2 to 5 leave them: they can be put in text order
+pub record Unadjusted (spans order spare : List ℕ) (floats : List (List Float)) (words : List (List ℕ)) (n : ℕ) : Type 0 where
+  pub few : length spans < 256
+  pub rows : n ≤ length floats
+  pub spared : n ≤ length spare
+  pub sortable : Sortable order words n
+
+-- n clusters, at least one, as steps 2 to 6 leave them: they can be put in text order, and none is moved. The text is the chunk's, and short
 pub record Unplaced (s : List ℕ) (next : NextChunk) (text order spare : List ℕ) (floats : List (List Float)) (words : List (List ℕ)) (n : ℕ) : Type 0 where
   pub own : text ≡ chunkIn s next .text
   pub short : next .before .offset + length text < 4_294_967_296
   pub some : 0 < n
   pub rows : n ≤ length floats
   pub spared : n ≤ length spare
-  pub ordered : Ordered order words n
+  pub sortable : Sortable order words n
   pub unmoved : All Unmoved (clustersOf floats words n)

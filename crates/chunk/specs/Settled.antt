@@ -1,6 +1,6 @@
--- A chunk that is sure to be laid out. Definitions only.
+-- Spans that have a text length, and a chunk that is sure to be laid out. Definitions only.
 use Prim.Native.Nat.{ℕ, _+_}
-use mathlib.Core.Bool.{Bool, not, _&&_}
+use mathlib.Core.Bool.{Bool, cond, not, _&&_}
 use mathlib.Core.List.{List}
 use lib.ListN.{length}
 use lib.Dec.{leb, eqb}
@@ -12,6 +12,10 @@ use Rattle.merge.specs.Source.{glyphSpan}
 -- the span's glyphs are stretched to a text length
 abbrev pub stretches : Span → Bool
 stretches s = hasLength s && eqb (s .adjust) adjustSpacingAndGlyphs
+
+-- the span has a text length, and where that is asked for, its glyphs are stretched to it
+abbrev pub lengthAsked : Bool → Span → Bool
+lengthAsked stretched s = cond stretched (stretches s) (hasLength s)
 
 -- no more than one span has glyphs, so that the merge meets neither 7 nor 8; and none is stretched, so that 9 is not met
 unfoldable pub settled : Chunk → Bool

@@ -1,12 +1,14 @@
 // Step 7 of a chunk.
 use crate::progress::NextChunk;
+use clusters::cluster_at;
 use job_rows::rows::anchor_at;
 use labels::Job;
 use position::Positioned;
-use position::line::positioned;
+use position::line::positioned_between;
 use position::line::resolve_clusters_positions_horizontal;
 use position::shifts::turn_shifts;
 use text_order::character_numbers;
+use text_order::logical_order;
 use wire::read::u16_at;
 ghost use mathlib.Core.Path.{_≡_};
 ghost use Rattle.labels.specs.Layout.{resolveClustersPositionsHorizontal};
@@ -23,12 +25,14 @@ fn is_still(s: &[u8], job: Job) -> bool
     (u16_at(s, job.dx) == 0) & (u16_at(s, job.dy) == 0) & (u16_at(s, job.rotate) == 0)
 }
 
-// Of a chunk that has clusters. In most jobs nothing is shifted or rotated, and then no character is numbered; else `spare` takes the numbers.
+// Of a chunk that has clusters. In most jobs nothing is shifted or rotated: then all clusters have one shift, so that any is as good as the first and
+// the last in text order, and no character is numbered. Else `order` takes the text order, anew even where step 6 made it, which is rare, and `spare`
+// takes the numbers.
 pub fn place_clusters(
     s: &[u8],
     next: NextChunk,
     text: &[u8],
-    order: &[u32],
+    order: &mut [u32],
     spare: &mut [u32],
     floats: &mut [[f32; 10]],
     words: &mut [[u32; 6]],
@@ -43,8 +47,10 @@ pub fn place_clusters(
     let anchor = anchor_at(s, next.at);
     if is_still(s, job) {
         turn_shifts(job.mode, floats, words, n);
-        return positioned(anchor, order, floats, words, n);
+        let any = cluster_at(floats, words, 0);
+        return positioned_between(anchor, any, any, floats, words, n);
     }
+    logical_order(words, n, order, spare);
     character_numbers(text, before.offset, words, n, order, spare);
     resolve_clusters_positions_horizontal(s, job, anchor, order, spare, floats, words, n)
 }

@@ -1,4 +1,5 @@
 // The steps of document 01, one after the other, on tables that have rows for all clusters.
+use crate::lengths::adjust_lengths;
 use crate::pen::origin_of;
 use crate::pen::pen_after;
 use crate::place::place_clusters;
@@ -12,12 +13,10 @@ use forming::chunk::form_clusters;
 use job_rows::sizes::text_of;
 use labels::Point;
 use length_adjust::Adjusted;
-use length_adjust::apply_length_adjust;
 use spacing::letter::apply_letter_spacing;
 use spacing::mode::apply_writing_mode;
 use spacing::word::apply_word_spacing;
 use text_order::character_count;
-use text_order::logical_order;
 use wire::place::from;
 ghost use mathlib.Core.Path.{_≡_};
 ghost use Prim.Native.Nat.{_+_, _≤_};
@@ -67,9 +66,7 @@ pub fn layout_merged(
     apply_writing_mode(job.mode, floats, words, n);
     apply_letter_spacing(s, spans, floats, words, n);
     apply_word_spacing(s, text, spans, floats, words, n);
-    logical_order(words, n, order, spare);
-    let lengths = apply_length_adjust(s, spans, order, spare, floats, words, n);
-    let adjusted = lengths.adjusted;
+    let adjusted = adjust_lengths(s, spans, order, spare, floats, words, n);
     match adjusted {
         Adjusted::Refused(number) => return Laid::Refused(number),
         Adjusted::Done => (),

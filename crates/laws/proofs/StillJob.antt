@@ -94,6 +94,11 @@ turned-all : {cs : List Cluster} → All Unmoved cs → All (ShiftedBy +0 (neg +
 unfolding turnShift
 turned-all k = all-map (ShiftedBy +0 (neg +0)) (turnShift rounded) (λ c h. (h .1, ap neg (h .0), h .2, h .3, h .4)) k
 
+-- so all have one shift, turned or not
+pub turned-alike : (mode : ℕ) {cs : List Cluster} → All Unmoved cs → (y : Float) × All (ShiftedBy +0 y) (turnShifts rounded mode cs)
+unfolding turnShifts
+turned-alike mode k = cond-keeps (λ ds. (y : Float) × All (ShiftedBy +0 y) ds) (eqb mode topToBottom) (neg +0, turned-all k) (+0, k)
+
 module _ (job : Job) (dx : job .dx ≡ []) (dy : job .dy ≡ []) (rotate : job .rotate ≡ []) where
   marks-turned : (text : List ℕ) (offset : ℕ) {cs : List Cluster} → All Unmoved cs
       → markRelativeShifts job text offset (turnShifts rounded (job .mode) cs) ≡ turnShifts rounded (job .mode) cs

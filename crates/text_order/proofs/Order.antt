@@ -8,10 +8,11 @@ use native.Mathlib.Omega.{arith}
 use lib.ListN.{length, getD, take, set}
 use lib.Seq.{getD-take, getD-set-same, getD-set-other, length-take-le, take-all, ext-getD}
 use Rattle.laws.proofs.All.{All}
+use Rattle.labels.specs.Position.{logicalOrder}
 use Rattle.clusters.specs.Clusters.{indexesIn}
 use Rattle.sorting.specs.Sorted.{sorted}
-use Rattle.text_order.specs.Keys.{keysOf}
-use Rattle.text_order.specs.Ordered.{Ordered}
+use Rattle.text_order.specs.Keys.{keyOf, keysOf}
+use Rattle.text_order.specs.Ordered.{Sortable, Ordered}
 use Rattle.sorting.proofs.Cases.{in-order}
 use Rattle.sorting.proofs.Ascending.{Ascends, sorted-ascends}
 use Rattle.sorting.proofs.Insertion.{sorted-length}
@@ -35,7 +36,15 @@ placeIn order k = getD order k 0 % 65536
 abbrev pub indexIn : List ℕ → List (List ℕ) → ℕ → ℕ → ℕ
 indexIn order words n k = getD (indexesIn words n) (placeIn order k) 0
 
--- rows that keep their byte indexes keep their order
+-- sorted keys are in text order
+pub ordered-sorted : {old order : List ℕ} {words : List (List ℕ)} {n : ℕ} → Sortable old words n → length order ≡ length old → take n order ≡ map keyOf (logicalOrder (indexesIn words n)) → Ordered order words n
+ordered-sorted o l e = record { rows = o .rows; count = omega (arith, o .count, l); few = o .few; keys = e }
+
+-- rows that keep their byte indexes can be sorted still
+pub sortable-still : {old order : List ℕ} {words : List (List ℕ)} {n : ℕ} (words′ : List (List ℕ)) → Sortable old words n → length order ≡ length old → n ≤ length words′ → indexesIn words′ n ≡ indexesIn words n → Sortable order words′ n
+sortable-still words′ o l q e = record { rows = q; count = omega (arith, o .count, l); few = o .few; indexes = rw e (o .indexes) }
+
+-- and keep their order
 pub ordered-still : {order : List ℕ} {words : List (List ℕ)} {n : ℕ} (words′ : List (List ℕ)) → Ordered order words n → n ≤ length words′ → indexesIn words′ n ≡ indexesIn words n → Ordered order words′ n
 ordered-still words′ o q e = record { rows = q; count = o .count; few = o .few; keys = rw e (o .keys) }
 

@@ -60,15 +60,15 @@ returns c =
     let here = found (next .before) in
     unsettled (s here) (spans here) _ (here .find-spans .ensures .parts) (next .before .glyph-span .ensures) (next .glyph-span2 .ensures) (omega (arith, many here, c .if1 .taken))
 
-any-stretches-requires : tie.Need-any-stretches-requires
-any-stretches-requires c κs = search needs
+any-length-requires : tie.Need-any-length-requires
+any-length-requires c κs = search needs
 
 returns-2 : tie.Need-returns-2
 returns-2 c =
     let next = c .before .before in
     let here = found (next .before) in
     settled-is (s here) (spans here) _ (here .find-spans .ensures .parts) (next .before .glyph-span .ensures) (next .glyph-span2 .ensures) (omega (arith, many here, c .before .if1 .left))
-    (c .any-stretches .ensures)
+    (c .any-length .ensures)
 
 pub is-settled-spec : {M : Type 1} → statement M
 is-settled-spec =
@@ -82,5 +82,5 @@ is-settled-spec =
     add-glyph-span
     glyph-span-requires-2
     returns
-    any-stretches-requires
+    any-length-requires
     returns-2)

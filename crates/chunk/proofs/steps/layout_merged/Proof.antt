@@ -13,8 +13,8 @@ use Rattle.labels.specs.Layout.{adjustedClusters}
 use Rattle.job_rows.specs.Rows.{glyphsAt}
 use Rattle.clusters.specs.Clusters.{clustersOf, indexesIn}
 use Rattle.clusters.proofs.Rows.{clusters-length}
-use Rattle.text_order.specs.Ordered.{Sortable, Ordered}
-use Rattle.text_order.proofs.Order.{ordered-still}
+use Rattle.text_order.specs.Ordered.{Sortable}
+use Rattle.text_order.proofs.Order.{sortable-still}
 use Rattle.length_adjust.specs.Answer.{adjustedOf}
 use Rattle.answer.proofs.ChunkRows.{empty-length}
 use Rattle.answer.specs.Chunks.{chunkRowMost, rowAt}
@@ -46,17 +46,14 @@ turned c = c .before .before .before .before
 abbrev spaced : tie.After-apply-word-spacing → tie.After-apply-letter-spacing
 spaced c = c .before .before .before .before .before
 
-abbrev worded : tie.After-logical-order → tie.After-apply-word-spacing
-worded c = c .before .before .before .before .before
+abbrev worded : tie.After-adjust-lengths → tie.After-apply-word-spacing
+worded c = c .before .before .before .before .before .before
 
-abbrev ordered : tie.After-apply-length-adjust → tie.After-logical-order
-ordered c = c .before .before .before .before .before .before .before .before .before
+abbrev refusing : tie.After-known-told → tie.After-adjust-lengths
+refusing c = c .before .before .before .before .before .before .before .before .before
 
-abbrev refusing : tie.After-known-told → tie.After-apply-length-adjust
-refusing c = c .before .before .before .before .before .before .before
-
-abbrev done : tie.After-enum-told → tie.After-apply-length-adjust
-done c = c .before .before .before .before .before .before
+abbrev done : tie.After-enum-told → tie.After-adjust-lengths
+done c = c .before .before .before .before .before .before .before .before
 
 abbrev empty : tie.After-write-empty-row → tie.After-enum-told
 empty c = c .before .before .before
@@ -65,7 +62,7 @@ abbrev some : tie.After-place-clusters → tie.Else1
 some c = c .before .before .before .before .before
 
 abbrev placed : tie.After-pen-after → tie.After-place-clusters
-placed c = c .before .before .before .before .before .before
+placed c = c .before .before .before .before .before .before .before .before
 
 abbrev penned : tie.After-write-chunk-row → tie.After-pen-after
 penned c = c .before .before .before .before
@@ -98,21 +95,21 @@ module _ (c : tie.After-apply-letter-spacing) where
 worded-floats : (c : tie.After-apply-word-spacing) → length (c .apply-word-spacing .last .1 .1 .1 .0) ≡ length (tables (formed (turned (spaced c))) .args .floats .now)
 worded-floats c = c .apply-word-spacing .kept .1 .1 .1 .0 ∙ spaced-floats (spaced c)
 
-module _ (c : tie.After-apply-length-adjust) where
+module _ (c : tie.After-adjust-lengths) where
   abbrev form : tie.After-form-clusters
-  form = formed (turned (spaced (worded (ordered c))))
+  form = formed (turned (spaced (worded c)))
 
-  adjusted-floats : length (c .apply-length-adjust .last .1 .1 .1 .1 .0) ≡ length (tables form .args .floats .now)
-  adjusted-floats = c .apply-length-adjust .kept .1 .1 .1 .1 .0 ∙ worded-floats (worded (ordered c))
+  adjusted-floats : length (c .adjust-lengths .last .1 .1 .1 .1 .0) ≡ length (tables form .args .floats .now)
+  adjusted-floats = c .adjust-lengths .kept .1 .1 .1 .1 .0 ∙ worded-floats (worded c)
 
-  adjusted-words : length (c .apply-length-adjust .last .1 .1 .1 .1 .1 .0) ≡ length (tables form .args .words .now)
-  adjusted-words = c .apply-length-adjust .kept .1 .1 .1 .1 .1 .0 ∙ spaced-words (spaced (worded (ordered c)))
+  adjusted-words : length (c .adjust-lengths .last .1 .1 .1 .1 .1 .0) ≡ length (tables form .args .words .now)
+  adjusted-words = c .adjust-lengths .kept .1 .1 .1 .1 .1 .0 ∙ spaced-words (spaced (worded c))
 
-  adjusted-order : length (ordered c .logical-order .last .1 .1 .0) ≡ length (tables form .args .order .now)
-  adjusted-order = ordered c .logical-order .kept .1 .1 .0
+  adjusted-order : length (c .adjust-lengths .last .1 .1 .0) ≡ length (tables form .args .order .now)
+  adjusted-order = c .adjust-lengths .kept .1 .1 .0
 
-  adjusted-spare : length (c .apply-length-adjust .last .1 .1 .1 .0) ≡ length (tables form .args .spare .now)
-  adjusted-spare = c .apply-length-adjust .kept .1 .1 .1 .0 ∙ ordered c .logical-order .kept .1 .1 .1 .0
+  adjusted-spare : length (c .adjust-lengths .last .1 .1 .1 .0) ≡ length (tables form .args .spare .now)
+  adjusted-spare = c .adjust-lengths .kept .1 .1 .1 .0
 
 -- ---- steps 2 to 6
 
@@ -171,39 +168,26 @@ sortable c =
       indexes = rw (spaced-indexes (spaced c)) (is .indexes);
     }
 
-logical-order-requires : tie.Need-logical-order-requires
-logical-order-requires c κs =
-    let word = c .before .before .before .before in
-    (fits (formed (turned (spaced word))) .spared, sortable word)
-
--- and then are
-in-order : (c : tie.After-logical-order) → let spacing = spaced (worded c) in
-    Ordered (c .logical-order .last .1 .1 .0) (spacing .apply-letter-spacing .last .1 .1 .1 .0) (formed (turned spacing) .form-clusters .result)
-in-order c =
-    let before = sortable (worded c) in
-    record { rows = before .rows; count = omega (arith, c .logical-order .kept .1 .1 .0, before .count); few = before .few; keys = c .logical-order .ensures }
-
-apply-length-adjust-requires : tie.Need-apply-length-adjust-requires
-apply-length-adjust-requires c κs =
-    let order = c .before .before .before .before .before .before .before .before in
-    let form = formed (turned (spaced (worded order))) in (
-      omega (arith, tables form .pre .0 .spanned .few),
-      record {
-        ordered = in-order order;
-        marked = omega (arith, order .logical-order .kept .1 .1 .1 .0, fits form .spared);
-        rows = omega (arith, worded-floats (worded order), fits form .floatRows);
-      },
-    )
+adjust-lengths-requires : tie.Need-adjust-lengths-requires
+adjust-lengths-requires c κs =
+    let word = c .before .before .before .before .before in
+    let form = formed (turned (spaced word)) in
+    record {
+      few = omega (arith, tables form .pre .0 .spanned .few);
+      rows = omega (arith, worded-floats word, fits form .floatRows);
+      spared = fits form .spared;
+      sortable = sortable word;
+    }
 
 -- what step 6 answers is what steps 2 to 6 answer
-told : (c : tie.After-apply-length-adjust) → let a = tables (form c) .args in let adjust = c .apply-length-adjust in
-    adjustedOf (adjust .result .adjusted) (clustersOf (adjust .last .1 .1 .1 .1 .0) (adjust .last .1 .1 .1 .1 .1 .0) (form c .form-clusters .result))
+told : (c : tie.After-adjust-lengths) → let a = tables (form c) .args in let adjust = c .adjust-lengths in
+    adjustedOf (adjust .result) (clustersOf (adjust .last .1 .1 .1 .1 .0) (adjust .last .1 .1 .1 .1 .1 .0) (form c .form-clusters .result))
     ≡ adjustedClusters (jobIn (a .s .now) (a .next)) (chunkIn (a .s .now) (a .next)) (glyphsAt (a .s .now) (a .merged .now))
 told c =
     let text = begun (form c) in
     let text-is = text .text-of .ensures ∙ ap (λ (bs : List ℕ). chunkOf bs .text) (text .before .from .ensures) in
-    let word = worded (ordered c) in
-    c .apply-length-adjust .ensures .0
+    let word = worded c in
+    c .adjust-lengths .ensures
     ∙ adjusted-is (start text .args .merged .now) (start text .pre .0 .spanned) text-is (form c .form-clusters .ensures .clusters) (turned (spaced word) .apply-writing-mode .ensures)
     (spaced word .apply-letter-spacing .ensures) (word .apply-word-spacing .ensures)
 
@@ -235,21 +219,21 @@ enum-told c = search needs
 
 module _ (c : tie.After-enum-told) where
   -- the clusters that it leaves
-  given-is : let adjust = done c .apply-length-adjust in let a = tables (form (done c)) .args in
+  given-is : let adjust = done c .adjust-lengths in let a = tables (form (done c)) .args in
       adjustedClusters (jobIn (a .s .now) (a .next)) (chunkIn (a .s .now) (a .next)) (glyphsAt (a .s .now) (a .merged .now))
       ≡ given (clustersOf (adjust .last .1 .1 .1 .1 .0) (adjust .last .1 .1 .1 .1 .1 .0) (form (done c) .form-clusters .result))
   given-is = done-given _ _ (told (done c)) (c .enum-told .given .1)
 
-  -- in text order still
-  kept-order : Ordered (ordered (done c) .logical-order .last .1 .1 .0) (done c .apply-length-adjust .last .1 .1 .1 .1 .1 .0) (form (done c) .form-clusters .result)
-  kept-order =
+  -- which can be put in text order still
+  kept-sortable : Sortable (done c .adjust-lengths .last .1 .1 .0) (done c .adjust-lengths .last .1 .1 .1 .1 .1 .0) (form (done c) .form-clusters .result)
+  kept-sortable =
       let adjust = done c in
       let fit = fits (form adjust) in
-      let order = in-order (ordered adjust) in
-      let rows : form adjust .form-clusters .result ≤ length (adjust .apply-length-adjust .last .1 .1 .1 .1 .1 .0) = omega (arith, adjusted-words adjust, fit .wordRows) in
-      ordered-still _ order rows
-      (done-kept _ _ _ _ _ (omega (arith, worded-floats (worded (ordered adjust)), fit .floatRows)) (order .rows) (omega (arith, adjusted-floats adjust, fit .floatRows)) rows
-      _ _ (c .enum-told .given .1) (adjust .apply-length-adjust .ensures .0))
+      let before = sortable (worded adjust) in
+      let rows : form adjust .form-clusters .result ≤ length (adjust .adjust-lengths .last .1 .1 .1 .1 .1 .0) = omega (arith, adjusted-words adjust, fit .wordRows) in
+      sortable-still _ before (adjusted-order adjust) rows
+      (done-kept _ _ _ _ _ (omega (arith, worded-floats (worded adjust), fit .floatRows)) (before .rows) (omega (arith, adjusted-floats adjust, fit .floatRows)) rows
+      _ _ (c .enum-told .given .1) (adjust .adjust-lengths .ensures))
 
 -- the text is the chunk's, and short
 text-is : (c : tie.After-text-of) → let a = start c .args in c .text-of .result .now ≡ chunkIn (a .s .now) (a .next) .text
@@ -309,7 +293,7 @@ place-clusters-requires c κs =
       some = omega (arith, more .if1 .left);
       rows = omega (arith, adjusted-floats adjust, fit .floatRows);
       spared = omega (arith, adjusted-spare adjust, fit .spared);
-      ordered = kept-order adjusted;
+      sortable = kept-sortable adjusted;
       unmoved = adjusted-unmoved _ _ _ _ (given-is adjusted);
     }
 
@@ -344,7 +328,7 @@ module _ (c : tie.After-pen-after) where
   words-there : n ≤ length (last .place-clusters .last .1 .1 .1 .1 .1 .1 .0)
   words-there = omega (arith, placed-words last, fits (form (done before)) .wordRows)
 
-  many : let adjust = done before .apply-length-adjust in length (clustersOf (adjust .last .1 .1 .1 .1 .0) (adjust .last .1 .1 .1 .1 .1 .0) n) ≡ n
+  many : let adjust = done before .adjust-lengths in length (clustersOf (adjust .last .1 .1 .1 .1 .0) (adjust .last .1 .1 .1 .1 .1 .0) n) ≡ n
   many =
       let fit = fits (form (done before)) in
       clusters-length _ _ n (omega (arith, adjusted-floats (done before), fit .floatRows)) (omega (arith, adjusted-words (done before), fit .wordRows))
@@ -357,7 +341,7 @@ module _ (c : tie.After-pen-after) where
       (take n (call .last .1 .1 .1 .1 .1 .0)) (take n (call .last .1 .1 .1 .1 .1 .1 .0))
 
   -- the chunk is placed as the row that is written
-  one-row : let call = last .place-clusters in let args = tables (form (done before)) .args in let adjust = done before .apply-length-adjust in
+  one-row : let call = last .place-clusters in let args = tables (form (done before)) .args in let adjust = done before .adjust-lengths in
       OneRow (args .s .now) (args .next) (args .merged .now)
       (chunkPlaced (args .s .now) (args .next) (args .merged .now) (clustersOf (adjust .last .1 .1 .1 .1 .0) (adjust .last .1 .1 .1 .1 .1 .0) n))
       (c .pen-after .result) (call .result .extent)
@@ -367,7 +351,7 @@ module _ (c : tie.After-pen-after) where
       let args = tables (form (done before)) .args in
       let fit = fits (form (done before)) in
       let adjust = done before in
-      let more : 0 < length (clustersOf (adjust .apply-length-adjust .last .1 .1 .1 .1 .0) (adjust .apply-length-adjust .last .1 .1 .1 .1 .1 .0) n) =
+      let more : 0 < length (clustersOf (adjust .adjust-lengths .last .1 .1 .1 .1 .0) (adjust .adjust-lengths .last .1 .1 .1 .1 .1 .0) n) =
       let one : 0 < n = omega (arith, some last .if1 .left) in omega (arith, many, one) in
       rw (cut-clusters _ _ n floats-there words-there)
       (clusters-row (args .s .now) (args .next) (args .merged .now) (tables (form adjust) .pre .0 .spanned) _ _ more (call .result) (call .ensures)
@@ -426,7 +410,9 @@ same-length-11 : tie.Need-same-length-11
 same-length-11 c = placed-words (placed (penned (c .before .before .before)))
 
 same-length-12 : tie.Need-same-length-12
-same-length-12 c = adjusted-order (done (before (penned (c .before .before .before))))
+same-length-12 c =
+    let pen = penned (c .before .before .before) in
+    placed pen .place-clusters .kept .1 .1 .1 .0 ∙ adjusted-order (done (before pen))
 
 same-length-13 : tie.Need-same-length-13
 same-length-13 c =
@@ -453,8 +439,7 @@ layout-merged-spec =
     apply-writing-mode-requires
     apply-letter-spacing-requires
     apply-word-spacing-requires
-    logical-order-requires
-    apply-length-adjust-requires
+    adjust-lengths-requires
     enum-known-adjusted
     same-length
     same-length-2
