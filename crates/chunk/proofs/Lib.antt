@@ -1,7 +1,7 @@
 pub mod Checked
 pub mod Spans
 pub mod Merging
-pub mod Sure
+pub mod NotRefused
 pub mod Adjusted
 pub mod Placed
 pub mod RowLength

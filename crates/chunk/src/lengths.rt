@@ -15,7 +15,7 @@ ghost use Rattle.clusters.specs.Clusters.{clustersOf};
 ghost use Rattle.job_rows.specs.Rows.{spansIn};
 ghost use Rattle.length_adjust.specs.Answer.{adjustedOf};
 ghost use Rattle.chunk.specs.Placing.{Unadjusted};
-ghost use Rattle.chunk.specs.Settled.{lengthAsked};
+ghost use Rattle.chunk.specs.Sure.{lengthAsked};
 
 // The span at `at` has a text length, and where `stretched` is asked for, its glyphs are stretched to it.
 fn length_at(s: &[u8], at: usize, stretched: bool) -> bool

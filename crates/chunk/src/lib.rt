@@ -5,6 +5,6 @@ mod lengths;
 mod pen;
 mod place;
 pub mod progress;
-pub mod settled;
 mod steps;
+pub mod sure;
 mod tables;

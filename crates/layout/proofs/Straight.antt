@@ -17,10 +17,10 @@ use Rattle.labels.specs.Decode.{chunkSize, chunkFits, chunkOf}
 use Rattle.labels.specs.Layout.{Progress, beginning, rowsOf, layoutChunk, layoutJob, layoutRows}
 use Rattle.job_rows.specs.Rows.{jobAt}
 use Rattle.job_rows.proofs.Walks.{rows-turn, rows-done}
-use Rattle.chunk.specs.Settled.{settled}
+use Rattle.chunk.specs.Sure.{sure}
 use Rattle.chunk.specs.Steps.{laidBytes}
 use Rattle.chunk.specs.Checked.{ShapedChunk}
-use Rattle.chunk.proofs.Sure.{settled-laid}
+use Rattle.chunk.proofs.NotRefused.{sure-laid}
 use Rattle.layout.specs.Checked.{CheckedJob}
 use Rattle.layout.specs.Steps.{jobLaid, fitsIn}
 use Rattle.layout.proofs.ChunksLeft.{chunksLeft, each-turn}
@@ -29,26 +29,26 @@ use Rattle.layout.proofs.Copied.{answerLength, fits-of}
 
 -- ---- the loop that asks
 
--- before a turn: the chunks that are left begin within the record and pass check 3, and whether they are settled decides whether those are that
+-- before a turn: the chunks that are left begin within the record and pass check 3, and whether they are sure decides whether those are that
 -- stand from `first` on
 pub record Asking (s : List ℕ) (first many at left : ℕ) : Type 0 where
   pub begins : at ≤ length s
   pub fits : T (each chunkSize chunkFits left (drop at s))
-  pub same : all settled (chunksLeft s at left) ≡ all settled (chunksLeft s first many)
+  pub same : all sure (chunksLeft s at left) ≡ all sure (chunksLeft s first many)
 
 module _ (s : List ℕ) {first many at left : ℕ} (y : Asking s first many at left) where
   module _ (h : 0 < left) where
     pub asked-chunk : (job : Job) → CheckedJob s job → ShapedChunk s at
     asked-chunk job k = record { size = k .size; begins = y .begins; fits = each-turn chunkSize chunkFits left (drop at s) h (y .fits) .0 }
 
-    one-left : all settled (chunksLeft s at left) ≡ (settled (chunkOf (drop at s)) && all settled (rows chunkSize chunkOf (left - 1) (drop (chunkSize (drop at s)) (drop at s))))
+    one-left : all sure (chunksLeft s at left) ≡ (sure (chunkOf (drop at s)) && all sure (rows chunkSize chunkOf (left - 1) (drop (chunkSize (drop at s)) (drop at s))))
     unfolding all
     one-left = rw (rows-turn chunkSize chunkOf left (drop at s) h) refl
 
-    pub asked-no : settled (chunkOf (drop at s)) ≡ false → false ≡ all settled (chunksLeft s first many)
+    pub asked-no : sure (chunkOf (drop at s)) ≡ false → false ≡ all sure (chunksLeft s first many)
     asked-no e = sym (rw e at one-left) ∙ y .same
 
-    pub asked-on : settled (chunkOf (drop at s)) ≡ true → (size q : ℕ) → size ≡ chunkSize (drop at s) → (drop q s ≡ drop size (drop at s)) × (q ≤ length s)
+    pub asked-on : sure (chunkOf (drop at s)) ≡ true → (size q : ℕ) → size ≡ chunkSize (drop at s) → (drop q s ≡ drop size (drop at s)) × (q ≤ length s)
         → Asking s first many q (left - 1)
     asked-on e size q size-is q-is =
         let behind : drop q s ≡ drop (chunkSize (drop at s)) (drop at s) = q-is .0 ∙ ap (λ (n : ℕ). drop n (drop at s)) size-is in
@@ -58,18 +58,18 @@ module _ (s : List ℕ) {first many at left : ℕ} (y : Asking s first many at l
           same = rw behind (sym (rw e at one-left)) ∙ y .same;
         }
 
-  pub asked-all : left ≤ 0 → true ≡ all settled (chunksLeft s first many)
+  pub asked-all : left ≤ 0 → true ≡ all sure (chunksLeft s first many)
   unfolding all
   asked-all h = sym (rw (rows-done chunkSize chunkOf left (drop at s) h) refl) ∙ y .same
 
 -- ---- what is known then
 
-all-laid : (job : definitions.Job) (st : Progress) (cs : List definitions.Chunk) → all settled cs ≡ true → (end : Progress) × (foldl (layoutChunk job) (given st) cs ≡ given end)
+all-laid : (job : definitions.Job) (st : Progress) (cs : List definitions.Chunk) → all sure cs ≡ true → (end : Progress) × (foldl (layoutChunk job) (given st) cs ≡ given end)
 unfolding all
 all-laid job st [] h = (st, refl)
 all-laid job st (c ∷ cs) h =
-    let one = settled-laid job st c (and-left (settled c) (all settled cs) h) in
-    let others = all-laid job (one .0) cs (and-right (settled c) (all settled cs) h) in
+    let one = sure-laid job st c (and-left (sure c) (all sure cs) h) in
+    let others = all-laid job (one .0) cs (and-right (sure c) (all sure cs) h) in
     (others .0, rw (one .1) (others .1))
 
 module _ {s : List ℕ} {job : Job} (k : CheckedJob s job) where
@@ -80,7 +80,7 @@ module _ {s : List ℕ} {job : Job} (k : CheckedJob s job) where
       let given-rows : layoutRows s ≡ given (rowsOf (st .chunks)) = rw (k .passed, e) refl in
       omega (arith, answer-bound s (rowsOf (st .chunks)) given-rows, answer-long (rowsOf (st .chunks)))
 
-  pub straight-fits : all settled (jobAt s job .chunks) ≡ true → (room : ℕ) → 64 * length s < room * 25 → fitsIn room (jobLaid s job) ≡ true
+  pub straight-fits : all sure (jobAt s job .chunks) ≡ true → (room : ℕ) → 64 * length s < room * 25 → fitsIn room (jobLaid s job) ≡ true
   unfolding jobLaid
   straight-fits h room r =
       let laid = all-laid (jobAt s job) beginning (jobAt s job .chunks) h in

@@ -2,7 +2,7 @@
 // single chunk keeps to that by itself, and is put at once. So are several, if each is sure to be laid out and the longest answer that the job can
 // have fits. Any others are laid out aside, and their rows are copied; only an answer that is longer than the buffer aside is laid out a second time,
 // straight into its place. So no memory grows with the chunks.
-use crate::chunks::all_settled;
+use crate::chunks::all_sure;
 use crate::chunks::beginning;
 use crate::chunks::count_of;
 use crate::chunks::lay_chunks;
@@ -76,7 +76,7 @@ pub fn put_chunks(s: &[u8], job: Job, answer: &mut [u8]) -> Laid
         return layout_chunk(s, NextChunk { job, at, before }, answer);
     }
     if has_room(s.len(), answer.len()) {
-        if all_settled(s, job) {
+        if all_sure(s, job) {
             return lay_chunks(s, job, answer);
         }
     }

@@ -4,7 +4,7 @@ use chunk::chunk::layout_chunk;
 use chunk::progress::Laid;
 use chunk::progress::NextChunk;
 use chunk::progress::Progress;
-use chunk::settled::is_settled;
+use chunk::sure::is_sure;
 use job_rows::sizes::CHUNK_COUNT_BYTES;
 use job_rows::sizes::chunk_size;
 use labels::Job;
@@ -20,7 +20,7 @@ ghost use Rattle.labels.specs.Answer.{answerHeadSize};
 ghost use Rattle.labels.specs.Layout.{beginning};
 ghost use Rattle.labels.specs.Lists.{all};
 ghost use Rattle.job_rows.specs.Rows.{jobAt};
-ghost use Rattle.chunk.specs.Settled.{settled};
+ghost use Rattle.chunk.specs.Sure.{sure};
 ghost use Rattle.chunk.specs.Steps.{progressFrom, laidFrom, putFrom};
 ghost use Rattle.layout.specs.Steps.{jobLaid, fitsIn};
 ghost use Rattle.layout.specs.Checked.{chunkCountIn, CheckedJob};
@@ -67,14 +67,14 @@ pub fn lay_chunks(s: &[u8], job: Job, out: &mut [u8]) -> Laid
 }
 
 // Whether every chunk is sure to be laid out.
-pub fn all_settled(s: &[u8], job: Job) -> bool
+pub fn all_sure(s: &[u8], job: Job) -> bool
     requires { ⌜ CheckedJob (now s) job ⌝ }
-    ensures { λ r. ⌜ r ≡ all settled (jobAt (now (s .entry)) job .chunks) ⌝ }
+    ensures { λ r. ⌜ r ≡ all sure (jobAt (now (s .entry)) job .chunks) ⌝ }
 {
     let mut at = job.chunks + CHUNK_COUNT_BYTES;
     let mut left = count_of(s, job);
     while 0 < left {
-        if !is_settled(s, at) {
+        if !is_sure(s, at) {
             return false;
         }
         at = after(s, at, chunk_size(from(s, at)));

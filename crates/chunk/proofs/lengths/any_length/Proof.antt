@@ -12,7 +12,7 @@ use Rattle.labels.specs.Decode.{spanOf}
 use Rattle.labels.proofs.Loops.{any-here, any-on, any-none}
 use Rattle.job_rows.specs.Rows.{spansIn}
 use Rattle.spacing.proofs.Tests.{any-map}
-use Rattle.chunk.specs.Settled.{lengthAsked}
+use Rattle.chunk.specs.Sure.{lengthAsked}
 use Rattle.chunk.proofs.lengths.any_length.Statement.{statement}
 use Rattle.chunk.proofs.lengths.any_length.Tie as tie
 

@@ -1,4 +1,4 @@
--- `layout::aside::put_chunks` meets its contract: one chunk by itself, settled ones straight, any others aside. Assumes nothing.
+-- `layout::aside::put_chunks` meets its contract: one chunk by itself, sure ones straight, any others aside. Assumes nothing.
 use mathlib.Core.Path.{sym, _∙_}
 use native.Mathlib.Omega.{arith}
 use lib.ListN.{length}
@@ -42,8 +42,8 @@ returns c =
 has-room-requires : tie.Need-has-room-requires
 has-room-requires c κs = search needs
 
-all-settled-requires : tie.Need-all-settled-requires
-all-settled-requires c κs = search needs
+all-sure-requires : tie.Need-all-sure-requires
+all-sure-requires c κs = search needs
 
 lay-chunks-requires : tie.Need-lay-chunks-requires
 lay-chunks-requires c κs = search needs
@@ -60,7 +60,7 @@ returns-2 c =
     let tested = roomy .before in
     let a = start (tested .before .before) in
     let room = ltb-true _ _ (sym (tested .has-room .ensures) ∙ roomy .if2 .taken) in
-    let fits = straight-fits (a .pre) (sym (asked .all-settled .ensures) ∙ sure .if3 .taken) (length (a .args .answer .now)) room in
+    let fits = straight-fits (a .pre) (sym (asked .all-sure .ensures) ∙ sure .if3 .taken) (length (a .args .answer .now)) room in
     record { laid = put .lay-chunks .ensures .0; buffer = put .lay-chunks .ensures .1 fits }
 
 put-aside-requires : tie.Need-put-aside-requires
@@ -83,7 +83,7 @@ put-chunks-spec =
     same-length
     returns
     has-room-requires
-    all-settled-requires
+    all-sure-requires
     lay-chunks-requires
     same-length-2
     returns-2

@@ -1,6 +1,6 @@
--- A settled chunk is laid out, whatever came before it. Assumes nothing.
+-- A chunk that is sure to be laid out is not refused, whatever came before it. Assumes nothing.
 use Prim.Native.Nat.{ℕ, _+_, _≤_, _<_}
-use mathlib.Core.Path.{_≡_, refl, sym, ap, _∙_}
+use mathlib.Core.Path.{_≡_, refl}
 use mathlib.Core.Bool.{Bool, true, false, cond, not, _&&_}
 use mathlib.Core.List.{List, [], _∷_, foldl}
 use native.Mathlib.Omega.{arith}
@@ -13,7 +13,7 @@ use Rattle.labels.specs.Outcome.{Outcome, given, andThen}
 use Rattle.labels.specs.Lists.{any}
 use Rattle.labels.specs.declared.Span.{Span}
 use Rattle.labels.specs.declared.Cluster.{Cluster}
-use Rattle.labels.specs.Job.{Job, Chunk, SpanParts, spansOf, hasLength, adjustSpacingAndGlyphs}
+use Rattle.labels.specs.Job.{Job, Chunk, spansOf, hasLength, adjustSpacingAndGlyphs}
 use Rattle.labels.specs.Spacing.{applyWordSpacing}
 use Rattle.labels.specs.Cluster.{rounded, adjustSpan, applyLengthAdjust}
 use Rattle.labels.specs.Layout.{Progress, collapsedClusters, adjustedClusters, placeChunk, layoutChunk}
@@ -21,7 +21,7 @@ use Rattle.job_rows.specs.Rows.{spansIn, partsIn}
 use Rattle.merge.specs.Source.{glyphSpan, spanGlyphs}
 use Rattle.merge.proofs.Alone.{parts-length, alone-merged}
 use Rattle.chunk.proofs.Checked.{spans-of}
-use Rattle.chunk.specs.Settled.{stretches, settled}
+use Rattle.chunk.specs.Sure.{stretches, sure}
 
 -- a span that is not stretched is not refused
 plain-given : (s : Span) (cs : List Cluster) → stretches s ≡ false → (ds : List Cluster) × (adjustSpan (given cs) s ≡ given ds)
@@ -43,9 +43,9 @@ plain-adjusted (s ∷ ss) cs h =
     let others = plain-adjusted ss (one .0) (each .1) in
     (others .0, rw (one .1) (others .1))
 
-pub settled-laid : (job : Job) (st : Progress) (c : Chunk) → settled c ≡ true → (next : Progress) × (layoutChunk job (given st) c ≡ given next)
-unfolding settled layoutChunk andThen adjustedClusters applyLengthAdjust
-settled-laid job st c h =
+pub sure-laid : (job : Job) (st : Progress) (c : Chunk) → sure c ≡ true → (next : Progress) × (layoutChunk job (given st) c ≡ given next)
+unfolding sure layoutChunk andThen adjustedClusters applyLengthAdjust
+sure-laid job st c h =
     let alone = leb (length (c .parts)) (glyphSpan (c .parts) (glyphSpan (c .parts) 0 + 1)) in
     let plain = not (any stretches (spansOf c)) in
     let merged = alone-merged (c .parts) (leb-true (length (c .parts)) _ (and-left alone plain h)) in
@@ -57,14 +57,14 @@ settled-laid job st c h =
 
 module _ (s spans : List ℕ) (c : Chunk) (parts : partsIn s spans ≡ c .parts) {own other : ℕ} (e : own ≡ glyphSpan (partsIn s spans) 0)
     (f : other ≡ glyphSpan (partsIn s spans) (own + 1)) where
-  pub unsettled : other < length spans → false ≡ settled c
-  unfolding settled
-  unsettled h =
+  pub unsure : other < length spans → false ≡ sure c
+  unfolding sure
+  unsure h =
       let less = lt-leb (length (partsIn s spans)) (glyphSpan (partsIn s spans) (glyphSpan (partsIn s spans) 0 + 1)) (rw (← rw e at f, parts-length s spans) h) in
       rw (← parts, less) refl
 
-  pub settled-is : length spans ≤ other → {r : Bool} → r ≡ any stretches (spansIn s spans) → not r ≡ settled c
-  unfolding settled
-  settled-is h r-is =
+  pub sure-is : length spans ≤ other → {r : Bool} → r ≡ any stretches (spansIn s spans) → not r ≡ sure c
+  unfolding sure
+  sure-is h r-is =
       let few = le-leb (length (partsIn s spans)) (glyphSpan (partsIn s spans) (glyphSpan (partsIn s spans) 0 + 1)) (rw (← rw e at f, parts-length s spans) h) in
       rw (← spans-of s spans c parts, ← r-is, ← parts, few) refl

@@ -18,5 +18,5 @@ abbrev pub lengthAsked : Bool → Span → Bool
 lengthAsked stretched s = cond stretched (stretches s) (hasLength s)
 
 -- no more than one span has glyphs, so that the merge meets neither 7 nor 8; and none is stretched, so that 9 is not met
-unfoldable pub settled : Chunk → Bool
-settled c = let ps = c .parts in leb (length ps) (glyphSpan ps (glyphSpan ps 0 + 1)) && not (any stretches (spansOf c))
+unfoldable pub sure : Chunk → Bool
+sure c = let ps = c .parts in leb (length ps) (glyphSpan ps (glyphSpan ps 0 + 1)) && not (any stretches (spansOf c))

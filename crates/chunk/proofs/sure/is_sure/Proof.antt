@@ -1,16 +1,15 @@
--- `chunk::settled::is_settled` meets its contract. Assumes nothing.
+-- `chunk::sure::is_sure` meets its contract. Assumes nothing.
 use Prim.Native.Nat.{ℕ}
 use mathlib.Core.Path.{_≡_}
 use mathlib.Core.List.{List}
 use native.Mathlib.Omega.{arith}
-use lib.ListN.{length, take, drop}
-use Rattle.labels.specs.Decode.{chunkOf}
+use lib.ListN.{length, take}
 use Rattle.chunk.proofs.Spans.{lent-length}
 use Rattle.chunk.proofs.Merging.{own-within}
-use Rattle.chunk.proofs.Sure.{unsettled, settled-is}
+use Rattle.chunk.proofs.NotRefused.{unsure, sure-is}
 use borrow.Author.Needs.{needs}
-use Rattle.chunk.proofs.settled.is_settled.Statement.{statement}
-use Rattle.chunk.proofs.settled.is_settled.Tie as tie
+use Rattle.chunk.proofs.sure.is_sure.Statement.{statement}
+use Rattle.chunk.proofs.sure.is_sure.Tie as tie
 
 slice-aggregate-find-spans : tie.Need-slice-aggregate-find-spans
 slice-aggregate-find-spans c = search needs
@@ -58,7 +57,7 @@ returns : tie.Need-returns
 returns c =
     let next = c .before in
     let here = found (next .before) in
-    unsettled (s here) (spans here) _ (here .find-spans .ensures .parts) (next .before .glyph-span .ensures) (next .glyph-span2 .ensures) (omega (arith, many here, c .if1 .taken))
+    unsure (s here) (spans here) _ (here .find-spans .ensures .parts) (next .before .glyph-span .ensures) (next .glyph-span2 .ensures) (omega (arith, many here, c .if1 .taken))
 
 any-length-requires : tie.Need-any-length-requires
 any-length-requires c κs = search needs
@@ -67,11 +66,11 @@ returns-2 : tie.Need-returns-2
 returns-2 c =
     let next = c .before .before in
     let here = found (next .before) in
-    settled-is (s here) (spans here) _ (here .find-spans .ensures .parts) (next .before .glyph-span .ensures) (next .glyph-span2 .ensures) (omega (arith, many here, c .before .if1 .left))
+    sure-is (s here) (spans here) _ (here .find-spans .ensures .parts) (next .before .glyph-span .ensures) (next .glyph-span2 .ensures) (omega (arith, many here, c .before .if1 .left))
     (c .any-length .ensures)
 
-pub is-settled-spec : {M : Type 1} → statement M
-is-settled-spec =
+pub is-sure-spec : {M : Type 1} → statement M
+is-sure-spec =
     tie.close
     (tie.spec
     slice-aggregate-find-spans

@@ -1,16 +1,16 @@
--- `layout::chunks::all_settled` meets its contract. Assumes nothing.
+-- `layout::chunks::all_sure` meets its contract. Assumes nothing.
 use Prim.Native.Nat.{ℕ, _+_}
 use mathlib.Core.Path.{_≡_, refl, sym, ap, _∙_}
 use native.Mathlib.Omega.{arith}
 use Rattle.laws.proofs.Tests.{failed, passed}
 use Rattle.labels.specs.Lists.{all}
 use Rattle.labels.specs.Decode.{chunkSize}
-use Rattle.chunk.specs.Settled.{settled}
+use Rattle.chunk.specs.Sure.{sure}
 use Rattle.layout.proofs.ChunksLeft.{chunksLeft}
 use Rattle.layout.proofs.Straight.{Asking, asked-chunk, asked-no, asked-on, asked-all}
 use borrow.Author.Needs.{needs}
-use Rattle.layout.proofs.chunks.all_settled.Statement.{statement}
-use Rattle.layout.proofs.chunks.all_settled.Tie as tie
+use Rattle.layout.proofs.chunks.all_sure.Statement.{statement}
+use Rattle.layout.proofs.chunks.all_sure.Tie as tie
 
 abbrev Inv-loop : tie.InvT-loop
 Inv-loop s at₀ left₀ at left = Asking s at₀ left₀ at left
@@ -29,16 +29,16 @@ loop-holds c =
     let k = c .before .before .before .pre in
     record { begins = k .begins; fits = rw (c .count-of .ensures .0) (k .fits); same = refl }
 
-is-settled-requires : tie.Need-is-settled-requires Inv-loop μ-loop
-is-settled-requires c κs = asked-chunk _ (c .before .loop .inv) (omega arith) _ (c .before .before .before .before .before .pre)
+is-sure-requires : tie.Need-is-sure-requires Inv-loop μ-loop
+is-sure-requires c κs = asked-chunk _ (c .before .loop .inv) (omega arith) _ (c .before .before .before .before .before .pre)
 
 returns : tie.Need-returns Inv-loop μ-loop
 returns c =
     let asked = c .before in
     let turn = asked .before .before in
     let start = turn .before .before .before .before in
-    let none = asked-no _ (turn .loop .inv) (omega arith) (failed (asked .is-settled .ensures) (c .if1 .taken)) in
-    none ∙ ap (all settled) (ap (λ (n : ℕ). chunksLeft (start .args .s .now) (start .args .job .chunks + 1) n) (turn .before .count-of .ensures .0))
+    let none = asked-no _ (turn .loop .inv) (omega arith) (failed (asked .is-sure .ensures) (c .if1 .taken)) in
+    none ∙ ap (all sure) (ap (λ (n : ℕ). chunksLeft (start .args .s .now) (start .args .job .chunks + 1) n) (turn .before .count-of .ensures .0))
 
 from-requires : tie.Need-from-requires Inv-loop μ-loop
 from-requires c κs = search needs
@@ -59,17 +59,17 @@ loop-again : tie.Need-loop-again Inv-loop μ-loop
 loop-again c =
     let l = c .before .before .before .before .before .before .loop in
     let k = c .before .chunk-size in
-    asked-on _ (l .inv) (omega arith) (passed (c .before .before .before .before .is-settled .ensures) (c .before .before .before .if1 .left)) (k .result) (c .after .result) (k .ensures .0 ∙ ap chunkSize (c .before .before .from .ensures)) (c .after .ensures)
+    asked-on _ (l .inv) (omega arith) (passed (c .before .before .before .before .is-sure .ensures) (c .before .before .before .if1 .left)) (k .result) (c .after .result) (k .ensures .0 ∙ ap chunkSize (c .before .before .from .ensures)) (c .after .ensures)
 
 returns-2 : tie.Need-returns-2 Inv-loop μ-loop
 returns-2 c =
     let turn = c .before in
     let start = turn .before .before .before .before in
     asked-all _ (turn .loop .inv) (c .loop-test .left)
-    ∙ ap (all settled) (ap (λ (n : ℕ). chunksLeft (start .args .s .now) (start .args .job .chunks + 1) n) (turn .before .count-of .ensures .0))
+    ∙ ap (all sure) (ap (λ (n : ℕ). chunksLeft (start .args .s .now) (start .args .job .chunks + 1) n) (turn .before .count-of .ensures .0))
 
-pub all-settled-spec : {M : Type 1} → statement M
-all-settled-spec =
+pub all-sure-spec : {M : Type 1} → statement M
+all-sure-spec =
     tie.close
     (tie.spec
     Inv-loop
@@ -77,7 +77,7 @@ all-settled-spec =
     add-at
     count-of-requires
     loop-holds
-    is-settled-requires
+    is-sure-requires
     returns
     from-requires
     chunk-size-requires

@@ -6,12 +6,12 @@ ghost use mathlib.Core.Path.{_≡_};
 ghost use lib.ListN.{drop};
 ghost use Rattle.labels.specs.Decode.{chunkOf};
 ghost use Rattle.chunk.specs.Checked.{ShapedChunk};
-ghost use Rattle.chunk.specs.Settled.{settled};
+ghost use Rattle.chunk.specs.Sure.{sure};
 
 // The chunk at `at` can meet neither 7 nor 8, since there is nothing to be merged, nor 9, since nothing is stretched.
-pub fn is_settled(s: &[u8], at: usize) -> bool
+pub fn is_sure(s: &[u8], at: usize) -> bool
     requires { ⌜ ShapedChunk (now s) at ⌝ }
-    ensures { λ r. ⌜ r ≡ settled (chunkOf (drop at (now (s .entry)))) ⌝ }
+    ensures { λ r. ⌜ r ≡ sure (chunkOf (drop at (now (s .entry)))) ⌝ }
 {
     let mut places = [0; 32];
     let n = find_spans(s, at, &mut places);
