@@ -13,8 +13,11 @@ use Rattle.labels.specs.declared.Cluster.{Cluster}
 use Rattle.labels.specs.Job.{hasLength}
 use Rattle.labels.specs.Kind.{indexes}
 use Rattle.labels.specs.Group.{groups}
-use Rattle.labels.specs.Spacing.{applyLetterSpacing, applyWordSpacing}
-use Rattle.labels.specs.Cluster.{rounded, formGlyphClusters, applyWritingMode, adjustSpan, applyLengthAdjust}
+use Rattle.labels.specs.LetterSpacing.{applyLetterSpacing}
+use Rattle.labels.specs.WordSpacing.{applyWordSpacing}
+use Rattle.labels.specs.Cluster.{rounded, formGlyphClusters}
+use Rattle.labels.specs.WritingMode.{applyWritingMode}
+use Rattle.labels.specs.LengthAdjust.{adjustSpan, applyLengthAdjust}
 use Rattle.labels.specs.Layout.{collapsedClusters, adjustedClusters}
 use Rattle.job_rows.specs.Rows.{fontsIn, spansIn, glyphsAt}
 use Rattle.clusters.specs.Clusters.{clustersOf, indexesIn}

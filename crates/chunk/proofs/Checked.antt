@@ -5,7 +5,8 @@ use mathlib.Core.Bool.{Bool, true, false, _&&_}
 use mathlib.Core.List.{List, map, map-map}
 use lib.ListN.{length, drop}
 use lib.Dec.{T}
-use Rattle.laws.proofs.All.{All, all-weaken, all-every, all-true, first, rest}
+use Rattle.laws.proofs.All.{all-weaken, all-every, all-true, first, rest}
+use Rattle.labels.specs.Lists.{All}
 use Rattle.laws.proofs.Counted.{chunk-counted}
 use Rattle.laws.proofs.ChunkPassed.{PassedGlyph, merged-passed}
 use Rattle.labels.specs.declared.Glyph.{Glyph}

@@ -4,10 +4,10 @@ use mathlib.Core.Path.{_≡_, refl, sym, ap, subst, _∙_}
 use mathlib.Core.List.{List, [], _∷_}
 use native.Mathlib.Omega.{arith}
 use lib.ListN.{length, take, drop, length-take}
-use Rattle.laws.proofs.All.{All, all-weaken, first, rest}
+use Rattle.laws.proofs.All.{all-weaken, first, rest}
 use Rattle.laws.proofs.Counted.{CountedParts, chunk-counted}
 use Rattle.labels.specs.Outcome.{given, andThen}
-use Rattle.labels.specs.Lists.{atOr}
+use Rattle.labels.specs.Lists.{atOr, All}
 use Rattle.labels.specs.Job.{SpanParts, limits}
 use Rattle.labels.specs.Merge.{mergeGlyphs}
 use Rattle.labels.specs.Layout.{layoutChunk}

@@ -14,8 +14,9 @@ use Rattle.labels.specs.Lists.{any}
 use Rattle.labels.specs.declared.Span.{Span}
 use Rattle.labels.specs.declared.Cluster.{Cluster}
 use Rattle.labels.specs.Job.{Job, Chunk, spansOf, hasLength, adjustSpacingAndGlyphs}
-use Rattle.labels.specs.Spacing.{applyWordSpacing}
-use Rattle.labels.specs.Cluster.{rounded, adjustSpan, applyLengthAdjust}
+use Rattle.labels.specs.WordSpacing.{applyWordSpacing}
+use Rattle.labels.specs.Cluster.{rounded}
+use Rattle.labels.specs.LengthAdjust.{adjustSpan, applyLengthAdjust}
 use Rattle.labels.specs.Layout.{Progress, collapsedClusters, adjustedClusters, placeChunk, layoutChunk}
 use Rattle.job_rows.specs.Rows.{spansIn, partsIn}
 use Rattle.merge.specs.Source.{glyphSpan, spanGlyphs}

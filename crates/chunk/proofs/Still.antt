@@ -5,10 +5,10 @@ use mathlib.Core.Bool.{Bool, true, _&&_}
 use mathlib.Core.List.{List, [], _∷_}
 use lib.ListN.{length, drop, getD}
 use lib.Ieee.{Float}
-use Rattle.laws.proofs.All.{All, and-left, and-right}
-use Rattle.laws.proofs.Unmoved.{Unmoved}
+use Rattle.laws.proofs.All.{and-left, and-right}
+use Rattle.laws.specs.Unmoved.{Unmoved}
 use Rattle.laws.proofs.StillJob.{turned-alike, unmoved-placed}
-use Rattle.labels.specs.Lists.{isEmpty}
+use Rattle.labels.specs.Lists.{isEmpty, All}
 use Rattle.labels.specs.Single.{+0}
 use Rattle.labels.specs.declared.Cluster.{Cluster}
 use Rattle.labels.specs.Position.{positioned, turnShifts}

@@ -5,9 +5,8 @@ use mathlib.Core.Bool.{Bool, _&&_}
 use mathlib.Core.List.{List}
 use lib.ListN.{length}
 use lib.Ieee.{Float}
-use Rattle.laws.proofs.All.{All}
-use Rattle.laws.proofs.Unmoved.{Unmoved}
-use Rattle.labels.specs.Lists.{isEmpty}
+use Rattle.laws.specs.Unmoved.{Unmoved}
+use Rattle.labels.specs.Lists.{isEmpty, All}
 use Rattle.labels.specs.Job.{Job}
 use Rattle.clusters.specs.Clusters.{clustersOf}
 use Rattle.text_order.specs.Ordered.{Sortable}

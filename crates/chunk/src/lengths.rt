@@ -10,7 +10,7 @@ ghost use mathlib.Core.Path.{_≡_};
 ghost use lib.ListN.{drop};
 ghost use Rattle.labels.specs.Lists.{any};
 ghost use Rattle.labels.specs.Decode.{spanOf};
-ghost use Rattle.labels.specs.Cluster.{applyLengthAdjust};
+ghost use Rattle.labels.specs.LengthAdjust.{applyLengthAdjust};
 ghost use Rattle.clusters.specs.Clusters.{clustersOf};
 ghost use Rattle.job_rows.specs.Rows.{spansIn};
 ghost use Rattle.length_adjust.specs.Answer.{adjustedOf};

@@ -9,7 +9,8 @@ use lib.ListN.{length}
 use lib.Dec.{T, ltb, ltb→lt, leb→le}
 use lib.Ieee.{Float}
 use Rattle.rounding.proofs.Inputs.{Input, input-of, font-size-of}
-use Rattle.laws.proofs.All.{All, all-of, all-every, all-map, all-weaken, all-read, all-drop, both, first, rest}
+use Rattle.laws.proofs.All.{all-of, all-every, all-map, all-weaken, all-read, all-drop, both, first, rest}
+use Rattle.labels.specs.Lists.{All}
 use Rattle.laws.proofs.Accepted.{accepted, InRange, RangedSpan, RangedChunk}
 use Rattle.laws.proofs.Counted.{IsByte, be-below}
 use Rattle.laws.proofs.GroupsKeep.{groups-keep}

@@ -15,12 +15,11 @@ use Rattle.rounding.proofs.Approx.{Absorbs, Absorbs.empty}
 use Rattle.rounding.proofs.Quotients.{absorbs-add}
 use Rattle.rounding.proofs.Track.{Track, track-weaken, track-lower, track-add}
 use Rattle.rounding.proofs.Sums.{Terms}
-use Rattle.laws.proofs.All.{All}
 use Rattle.labels.specs.declared.Font.{Font}
 use Rattle.labels.specs.declared.Span.{Span}
 use Rattle.labels.specs.declared.Cluster.{Cluster}
 use Rattle.labels.specs.Single.{+0}
-use Rattle.labels.specs.Lists.{among}
+use Rattle.labels.specs.Lists.{among, All}
 use Rattle.labels.specs.Job.{spanAt, adjustNatural}
 use Rattle.labels.specs.Merge.{spanContains}
 use Rattle.labels.specs.LengthAdjust.{takenOf, stretchedBy}

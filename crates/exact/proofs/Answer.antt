@@ -12,7 +12,7 @@ use lib.Dec.{T, eqb, leb, lit<}
 use lib.Ieee.{Float, nan, inf, fin}
 use lib.Ieee.Fits.{down-pos}
 use Rattle.rounding.specs.Fraction.{Frac, valueOf}
-use Rattle.laws.proofs.All.{All, all-of, all-weaken, both}
+use Rattle.laws.proofs.All.{all-of, all-weaken, both}
 use Rattle.laws.proofs.Outcomes.{reached}
 use Rattle.laws.proofs.Accepted.{accepted}
 use Rattle.laws.proofs.Counted.{IsByte}
@@ -21,13 +21,13 @@ use Rattle.laws.proofs.RowsFit.{Ready, ReadyJob, ready-chunks, job-fits, job-re
 use Rattle.labels.specs.declared.Glyph.{Glyph}
 use Rattle.labels.specs.declared.Cluster.{Cluster}
 use Rattle.labels.specs.Outcome.{Outcome, refused, given}
-use Rattle.labels.specs.Lists.{scan}
+use Rattle.labels.specs.Lists.{scan, All}
 use Rattle.labels.specs.Utf8.{characters}
 use Rattle.labels.specs.Job.{Job, Chunk, SpanParts, topToBottom}
 use Rattle.labels.specs.Check.{checked, spansOk}
 use Rattle.labels.specs.Merge.{mergeGlyphs}
-use Rattle.labels.specs.Position.{entries, logicalOrder, resolveRelativeShifts, turnShifts, placedFrom, positioned}
-use Rattle.labels.specs.Cluster.{rounded, markRelativeShifts}
+use Rattle.labels.specs.Position.{entries, logicalOrder, resolveRelativeShifts, turnShifts, placedFrom, positioned, markRelativeShifts}
+use Rattle.labels.specs.Cluster.{rounded}
 use Rattle.labels.specs.Answer.{ClusterRow, ChunkRow, answerBytes}
 use Rattle.labels.specs.Layout.{bit, flagsOf, clusterRow, adjustedClusters, resolveClustersPositionsHorizontal, LaidChunk, Progress, beginning, placeChunk, layoutChunk, layoutJob, rowsOf, layoutRows, fitting, layoutOf, bufferAfter}
 use Rattle.labels.specs.Exact.{ExactCluster, AllPairs, Near, NearChunk, NearChunks, NearAnswer, allowed, formedExactly, layoutExactly}

@@ -16,20 +16,22 @@ use Rattle.rounding.proofs.Approx.{scale-at, Absorbs, Absorbs.empty, Absorbs.co
 use Rattle.rounding.proofs.Track.{track-near}
 use Rattle.rounding.proofs.Near.{Near}
 use Rattle.rounding.proofs.Inputs.{Input}
-use Rattle.laws.proofs.All.{All, all-map}
+use Rattle.laws.proofs.All.{all-map}
 use Rattle.laws.proofs.AsMany.{as-many}
 use Rattle.labels.specs.declared.Font.{Font}
 use Rattle.labels.specs.declared.Span.{Span}
 use Rattle.labels.specs.declared.Glyph.{Glyph}
 use Rattle.labels.specs.declared.Cluster.{Cluster}
 use Rattle.labels.specs.Outcome.{given}
-use Rattle.labels.specs.Lists.{any}
+use Rattle.labels.specs.Lists.{any, All}
 use Rattle.labels.specs.Job.{Job, Chunk, spansOf, hasLength, spreads}
 use Rattle.labels.specs.Check.{spansOk}
 use Rattle.labels.specs.Group.{Group, groups}
-use Rattle.labels.specs.Spacing.{applyLetterSpacing, applyWordSpacing}
-use Rattle.labels.specs.Position.{resolveRelativeShifts, turnShifts, positioned}
-use Rattle.labels.specs.Cluster.{rounded, applyLengthAdjust, markRelativeShifts}
+use Rattle.labels.specs.LetterSpacing.{applyLetterSpacing}
+use Rattle.labels.specs.WordSpacing.{applyWordSpacing}
+use Rattle.labels.specs.Position.{resolveRelativeShifts, turnShifts, positioned, markRelativeShifts}
+use Rattle.labels.specs.Cluster.{rounded}
+use Rattle.labels.specs.LengthAdjust.{applyLengthAdjust}
 use Rattle.labels.specs.Layout.{collapsedClusters, adjustedClusters, resolveClustersPositionsHorizontal}
 use Rattle.labels.specs.Exact.{ExactCluster, exact, formedExactly, adjustSpanExactly, layoutExactly, sizeTotal, allowed, sharpness, AllPairs}
 use Rattle.exact.proofs.Costs.{spacedCost}

@@ -28,7 +28,7 @@ use Rattle.exact.proofs.Share.{shareError, share, share-error, shares-e
 use Rattle.exact.proofs.Formed.{Frame}
 use Rattle.exact.proofs.Places.{marksFrom, marked, pick, atMarks, adjusted-at}
 use Rattle.exact.proofs.Adjusted.{Cell, sumOf, Lined, Unset, unset, part, cost, taken-terms, picked-absorb, costs-below, same-indexes}
-use Rattle.laws.proofs.All.{All}
+use Rattle.labels.specs.Lists.{All}
 
 -- ---- as many are picked as are marked, and no more than there are
 

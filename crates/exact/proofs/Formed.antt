@@ -15,7 +15,7 @@ use Rattle.rounding.proofs.Inputs.{FontSize}
 use Rattle.rounding.proofs.Operands.{track-zero, advanceMass, track-glyph, glyph-size, glyph-small, glyph-absorbs}
 use Rattle.rounding.proofs.Sums.{Terms, Terms.none, Terms.more, track-sum}
 use Rattle.rounding.proofs.Extremes.{terms-each, track-maximum}
-use Rattle.laws.proofs.All.{All}
+use Rattle.labels.specs.Lists.{All}
 use Rattle.labels.specs.declared.Font.{Font}
 use Rattle.labels.specs.declared.Glyph.{Glyph}
 use Rattle.labels.specs.Job.{fontAt, blankFont}

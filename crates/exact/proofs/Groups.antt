@@ -8,16 +8,16 @@ use lib.ListN.{length}
 use lib.Dec.{eqb}
 use lib.Ieee.{Float}
 use Rattle.rounding.specs.Fraction.{_+ᵠ_, valueOf}
-use Rattle.laws.proofs.All.{All}
 use Rattle.labels.specs.declared.Font.{Font}
 use Rattle.labels.specs.declared.Span.{Span}
 use Rattle.labels.specs.declared.Cluster.{Cluster}
-use Rattle.labels.specs.Lists.{scan, any}
+use Rattle.labels.specs.Lists.{scan, any, All}
 use Rattle.labels.specs.Single.{isZero}
 use Rattle.labels.specs.Job.{spanAt}
 use Rattle.labels.specs.Group.{Group}
 use Rattle.labels.specs.Script.{scriptSupportsLetterSpacing, isWordSeparatorAt}
-use Rattle.labels.specs.Spacing.{settled, letterSpaced, nextLetterSpaced, applyLetterSpacing, wordSpaced, applyWordSpacing}
+use Rattle.labels.specs.LetterSpacing.{settled, letterSpaced, nextLetterSpaced, applyLetterSpacing}
+use Rattle.labels.specs.WordSpacing.{wordSpaced, applyWordSpacing}
 use Rattle.labels.specs.Exact.{ExactCluster, exact, exactCluster, glyphTotal}
 use Rattle.laws.proofs.GlyphsShared.{groupGlyphs}
 use Rattle.exact.proofs.Total.{groupsOf}

@@ -16,18 +16,17 @@ use Rattle.rounding.specs.Fraction.{Frac}
 use Rattle.rounding.proofs.Units.{unit, sizeOf}
 use Rattle.rounding.proofs.Track.{Track, track-lower}
 use Rattle.rounding.proofs.Operands.{track-zero}
-use Rattle.laws.proofs.All.{All}
 use Rattle.labels.specs.declared.Font.{Font}
 use Rattle.labels.specs.declared.Span.{Span}
 use Rattle.labels.specs.declared.Cluster.{Cluster}
 use Rattle.labels.specs.Outcome.{Outcome, refused, given}
-use Rattle.labels.specs.Lists.{modify, all, atOr}
+use Rattle.labels.specs.Lists.{modify, all, atOr, All}
 use Rattle.labels.specs.Single.{_/ᶠ_, +0, isZero, thousandth}
 use Rattle.labels.specs.Job.{hasLength, adjustSpacingAndGlyphs, spreads}
 use Rattle.labels.specs.Check.{ordered}
-use Rattle.labels.specs.LengthAdjust.{clusterIndexes, sumAt, spacingFactor, takenOf, adjustSpacingOf}
+use Rattle.labels.specs.LengthAdjust.{clusterIndexes, sumAt, spacingFactor, takenOf, adjustSpacingOf, widthOf, scaledBy, adjustGlyphsOf, adjustSpan}
 use Rattle.labels.specs.ClusterParts.{withScale}
-use Rattle.labels.specs.Cluster.{rounded, widthOf, scaledBy, adjustGlyphsOf, adjustSpan}
+use Rattle.labels.specs.Cluster.{rounded}
 use Rattle.labels.specs.Exact.{ExactCluster, exact, AllPairs, adjustSpanExactly}
 use Rattle.exact.proofs.Costs.{spacedCost, amountCost, amountsCost, advancesCost}
 use Rattle.exact.proofs.Products.{product}

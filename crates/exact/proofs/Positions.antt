@@ -19,8 +19,8 @@ use Rattle.labels.specs.declared.Cluster.{Cluster}
 use Rattle.labels.specs.Lists.{atOr, scan}
 use Rattle.labels.specs.Single.{+0}
 use Rattle.labels.specs.Job.{Job, anchorStart, anchorMiddle}
-use Rattle.labels.specs.Position.{Extent, extentNext, extentOf, processAnchor, placedFrom, positioned, firstPlace, logicalOrder}
-use Rattle.labels.specs.Cluster.{rounded, marked, markRelativeShifts}
+use Rattle.labels.specs.Position.{Extent, extentNext, extentOf, processAnchor, placedFrom, positioned, firstPlace, logicalOrder, marked, markedBy, markRelativeShifts}
+use Rattle.labels.specs.Cluster.{rounded}
 use Rattle.labels.specs.Exact.{ExactCluster, exact, AllPairs}
 use Rattle.exact.proofs.Adjusted.{Cell, sumOf}
 use Rattle.exact.proofs.Shifts.{Shifted}
@@ -29,7 +29,7 @@ use Rattle.exact.proofs.Shifts.{Shifted}
 
 marked-from : {D S Y Ey X Ex : ℕ} {ks : List Cell} {cs : List Cluster} {qs : List ExactCluster} (job : Job) (text : List ℕ) (offset : ℕ) (before : Cluster) → Shifted D S Y Ey X Ex ks cs qs
     → Shifted D S Y Ey X Ex ks (scan (λ (before c : Cluster). c) (marked job text offset) before cs) qs
-unfolding scan marked
+unfolding scan marked markedBy
 marked-from job text offset before Shifted.nil = Shifted.nil
 marked-from job text offset before (Shifted.cons {c = c} b l) =
     Shifted.cons (record { index = b .index; collapsed = b .collapsed; advance = b .advance; spacing = b .spacing; x = b .x; y = b .y }) (marked-from job text offset c l)

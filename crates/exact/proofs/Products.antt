@@ -5,7 +5,7 @@ use mathlib.Core.List.{List, [], _∷_, foldr}
 use native.Mathlib.Nat.{mul-pos, mul-left-comm, le-of-suc-le-suc, not-suc-le-zero}
 use lib.ListN.{length, getD}
 use lib.Dec.{lit<}
-use Rattle.laws.proofs.All.{All}
+use Rattle.labels.specs.Lists.{All}
 
 abbrev pub product : List ℕ → ℕ
 product xs = foldr _*_ 1 xs

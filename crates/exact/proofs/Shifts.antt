@@ -14,11 +14,11 @@ use Rattle.rounding.proofs.Approx.{Scale}
 use Rattle.rounding.proofs.Track.{Track, track-weaken, track-add, track-neg}
 use Rattle.rounding.proofs.Inputs.{Input, input-zero}
 use Rattle.rounding.proofs.Operands.{track-zero, track-input}
-use Rattle.laws.proofs.All.{All, all-getD}
+use Rattle.laws.proofs.All.{all-getD}
 use Rattle.labels.specs.declared.Font.{Font}
 use Rattle.labels.specs.declared.Span.{Span}
 use Rattle.labels.specs.declared.Cluster.{Cluster}
-use Rattle.labels.specs.Lists.{modify}
+use Rattle.labels.specs.Lists.{modify, All}
 use Rattle.labels.specs.Single.{+0}
 use Rattle.labels.specs.Job.{Job, topToBottom}
 use Rattle.labels.specs.Position.{Entry, entries, insert, logicalOrder, characterNumber, Shifting, shiftNext, resolveRelativeShifts, turnShift, turnShifts}

@@ -13,21 +13,22 @@ use Rattle.rounding.proofs.Units.{unit, sizeOf}
 use Rattle.rounding.proofs.Track.{Track, track-weaken, track-add}
 use Rattle.rounding.proofs.Inputs.{Input, FontSize}
 use Rattle.rounding.proofs.Operands.{track-zero, track-input}
-use Rattle.laws.proofs.All.{All}
 use Rattle.laws.proofs.AsMany.{length-scan}
 use Rattle.labels.specs.declared.Font.{Font}
 use Rattle.labels.specs.declared.Glyph.{Glyph}
 use Rattle.labels.specs.declared.Span.{Span}
 use Rattle.labels.specs.declared.Cluster.{Cluster}
-use Rattle.labels.specs.Lists.{scan, any}
+use Rattle.labels.specs.Lists.{scan, any, All}
 use Rattle.labels.specs.Single.{+0, isZero, isPositive}
 use Rattle.labels.specs.Job.{spanAt, topToBottom}
 use Rattle.labels.specs.Group.{Group}
 use Rattle.labels.specs.Script.{scriptSupportsLetterSpacing, isWordSeparatorAt}
 use Rattle.labels.specs.Kind.{glyphAdvance, sumAdvance, maxAdvance}
-use Rattle.labels.specs.Spacing.{settled, letterSpaced, nextLetterSpaced, applyLetterSpacing, wordSpaced, applyWordSpacing}
+use Rattle.labels.specs.LetterSpacing.{settled, letterSpaced, nextLetterSpaced, applyLetterSpacing}
+use Rattle.labels.specs.WordSpacing.{wordSpaced, applyWordSpacing}
 use Rattle.labels.specs.ClusterParts.{withLine, collapsed}
-use Rattle.labels.specs.Cluster.{rounded, formGlyphClusters, turned, applyWritingMode}
+use Rattle.labels.specs.Cluster.{rounded, formGlyphClusters}
+use Rattle.labels.specs.WritingMode.{turned, applyWritingMode}
 use Rattle.labels.specs.Exact.{ExactCluster, exact, exactCluster, AllPairs}
 use Rattle.exact.proofs.Costs.{spacedCost}
 use Rattle.exact.proofs.Load.{Load, load-zero, load-add, load-input}

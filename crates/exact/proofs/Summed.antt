@@ -6,14 +6,14 @@ use mathlib.Core.List.{List, [], _∷_, map, foldl}
 use native.Mathlib.Nat.{le-trans, le-of-eq, mul-le-mul-right, mul-le-mul-left}
 use native.Mathlib.Omega.{arith}
 use lib.ListN.{length, length-map}
-use Rattle.laws.proofs.All.{All, fold-skips}
+use Rattle.laws.proofs.All.{fold-skips}
 use Rattle.labels.specs.declared.Font.{Font}
 use Rattle.labels.specs.declared.Span.{Span}
 use Rattle.labels.specs.declared.Cluster.{Cluster}
 use Rattle.labels.specs.Outcome.{given}
-use Rattle.labels.specs.Lists.{any}
+use Rattle.labels.specs.Lists.{any, All}
 use Rattle.labels.specs.Job.{hasLength}
-use Rattle.labels.specs.Cluster.{adjustSpan}
+use Rattle.labels.specs.LengthAdjust.{adjustSpan}
 use Rattle.labels.specs.Exact.{ExactCluster, exact, adjustSpanExactly, AllPairs}
 use Rattle.exact.proofs.Costs.{spacedCost, amountCost, advancesCost}
 use Rattle.exact.proofs.Formed.{Frame}

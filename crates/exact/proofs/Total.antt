@@ -8,7 +8,8 @@ use lib.Ieee.{Float}
 use Rattle.rounding.specs.Fraction.{Frac, _+ᵠ_, absᵠ, valueOf}
 use Rattle.rounding.proofs.Units.{sizeOf}
 use Rattle.rounding.proofs.Inputs.{Input, input-zero}
-use Rattle.laws.proofs.All.{All, all-getD}
+use Rattle.laws.proofs.All.{all-getD}
+use Rattle.labels.specs.Lists.{All}
 use Rattle.labels.specs.declared.Font.{Font}
 use Rattle.labels.specs.declared.Span.{Span}
 use Rattle.labels.specs.Single.{+0}

@@ -13,7 +13,7 @@ use Rattle.labels.specs.Check.{checked}
 use Rattle.labels.specs.Merge.{mergeGlyphs}
 use Rattle.labels.specs.Script.Tag.{tag}
 use Rattle.labels.specs.Exact.{ExactCluster, formedExactly, layoutExactly, glyphTotal, sizeTotal, allowed}
-use Rattle.labels.specs.Compute.{computed}
+use Rattle.labels.proofs.Compute.{computed}
 use Rattle.labels.proofs.Seen.{whole, below, shown}
 use Rattle.labels.proofs.Jobs.{fontRow, wideRow, letterRow, fontSpan, spanRow, chunkRow, listsJob, plainJob, labelSpan, labelJob, plainVariant, lengthVariant, thirds, mixed, built}
 

@@ -2,7 +2,7 @@
 use mathlib.Core.Path.{_≡_, refl}
 use mathlib.Core.List.{[], _∷_}
 use Rattle.labels.specs.Single.{_/ᶠ_, ofNat, +0, half, two, four-fifths, thousandth, smallest, largest, smallestSize, largestSize}
-use Rattle.labels.specs.Compute.{computed}
+use Rattle.labels.proofs.Compute.{computed}
 
 constants : +0 ∷ half ∷ two ∷ four-fifths ∷ thousandth ∷ smallest ∷ largest ∷ smallestSize ∷ largestSize ∷ []
     ≡ ofNat 0 ∷ (ofNat 1 /ᶠ ofNat 2) ∷ ofNat 2 ∷ (ofNat 4 /ᶠ ofNat 5) ∷ (ofNat 1 /ᶠ ofNat 1000) ∷ (ofNat 1 /ᶠ ofNat 1048576) ∷ ofNat 1048576

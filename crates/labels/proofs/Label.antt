@@ -10,7 +10,7 @@ use Rattle.labels.specs.Script.Tag.{tag}
 use Rattle.labels.specs.Decoration.{Run}
 use Rattle.labels.specs.Answer.{ChunkRow, ClusterRow, SpanRow, readAnswer}
 use Rattle.labels.specs.Layout.{LaidChunk, Progress, beginning, layoutChunk, layoutJob, layoutOf, rowsOf}
-use Rattle.labels.specs.Compute.{computed}
+use Rattle.labels.proofs.Compute.{computed}
 use Rattle.labels.proofs.Seen.{bits, whole, below, -0, shown}
 use Rattle.labels.proofs.Jobs.{Variant, fontRow, chunkRow, jobRow, labelSpan, plainVariant, lengthVariant, labelJob, built}
 

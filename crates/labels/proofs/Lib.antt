@@ -1,4 +1,5 @@
 -- What is computed from the definitions, as tables, and the loops of the code.
+pub mod Compute
 pub mod Seen
 pub mod Jobs
 pub mod Label

@@ -7,11 +7,11 @@ use Rattle.labels.specs.Job.{Job, Chunk, Span, Glyph, noFont, adjustSpac
 use Rattle.labels.specs.Single.{+0}
 use Rattle.labels.specs.Check.{checked}
 use Rattle.labels.specs.Merge.{mergeGlyphs}
-use Rattle.labels.specs.Spacing.{applyWordSpacing}
+use Rattle.labels.specs.WordSpacing.{applyWordSpacing}
 use Rattle.labels.specs.Cluster.{rounded}
 use Rattle.labels.specs.Layout.{collapsedClusters}
 use Rattle.labels.specs.Looked.{bytesLooked, spansLooked}
-use Rattle.labels.specs.Compute.{computed}
+use Rattle.labels.proofs.Compute.{computed}
 use Rattle.labels.proofs.Seen.{whole, below, shown}
 use Rattle.labels.proofs.Jobs.{letterRow, wideRow, spanRow, plainSpan, chunkRow, plainJob, built, mixed}
 

@@ -13,7 +13,7 @@ use Rattle.labels.specs.Script.Tag.{tag}
 use Rattle.labels.specs.Answer.{ClusterRow}
 use Rattle.labels.specs.Layout.{layoutOf, bufferAfter}
 use Rattle.labels.specs.Exact.{ExactCluster, AllPairs, Near, NearAnswer}
-use Rattle.labels.specs.Compute.{computed}
+use Rattle.labels.proofs.Compute.{computed}
 use Rattle.labels.proofs.Seen.{whole, below, shown}
 use Rattle.labels.proofs.Jobs.{wideRow, letterRow, plainSpan, chunkRow, plainJob, labelAt, plainVariant, lengthVariant, thirds, mixed, built}
 

@@ -7,7 +7,7 @@ use lib.ListN.{length, take, set, replicate}
 use Rattle.labels.specs.Bytes.{bytes}
 use Rattle.labels.specs.Script.Tag.{tag}
 use Rattle.labels.specs.Layout.{layoutOf, numberOf}
-use Rattle.labels.specs.Compute.{computed}
+use Rattle.labels.proofs.Compute.{computed}
 use Rattle.labels.proofs.Jobs.{plainVariant, labelJob, fontRow, glyphRow, letterRow, spanRow, plainSpan, chunkRow, jobRow, plainJob, built}
 
 -- ---- jobs

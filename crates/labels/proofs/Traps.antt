@@ -10,7 +10,7 @@ use Rattle.labels.specs.Script.{scriptSupportsLetterSpacing, isWordSepar
 use Rattle.labels.specs.Script.Tag.{tag}
 use Rattle.labels.specs.Answer.{GlyphRow, ClusterRow, SpanRow, ChunkRow}
 use Rattle.labels.specs.Layout.{layoutRows}
-use Rattle.labels.specs.Compute.{computed}
+use Rattle.labels.proofs.Compute.{computed}
 use Rattle.labels.proofs.Seen.{bits, whole, below, -0, shown}
 use Rattle.labels.proofs.Jobs.{Variant, fontRow, glyphRow, wideRow, letterRow, spanRow, plainSpan, chunkRow, jobRow, plainJob, labelJob, plainVariant, lengthVariant, built}
 

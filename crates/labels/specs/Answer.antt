@@ -126,9 +126,6 @@ spanRowLength s = spanRowSize (length (s .runs))
 unfoldable pub chunkRowLength : ChunkRow → ℕ
 chunkRowLength c = chunkHeadSize + sum (map clusterRowLength (c .clusters)) + sum (map spanRowLength (c .spans))
 
-unfoldable pub answerLength : List ChunkRow → ℕ
-answerLength cs = answerHeadSize + sum (map chunkRowLength cs)
-
 -- ---- the rows that an answer's bytes hold
 
 unfoldable pub glyphRowOf : List ℕ → GlyphRow

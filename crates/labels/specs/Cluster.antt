@@ -1,21 +1,16 @@
--- The rounded clusters: what steps 2 and 4 to 7 read and set of them, and the steps that only the rounded layout takes (3, scaling,
--- marks). Definitions only.
+-- The rounded clusters: what the steps read and set of them. And step 2, which makes them. Definitions only.
 pub use Rattle.labels.specs.declared.Cluster.{Cluster}
-use Rattle.labels.specs.ClusterParts.{withLine, withHeight, withScale, withMarks, collapsed}
+use Rattle.labels.specs.ClusterParts.{withLine, collapsed}
 use Prim.Native.Nat.{ℕ}
-use mathlib.Core.Bool.{false, not, cond, _||_}
-use mathlib.Core.List.{List, [], _∷_, map, foldl}
-use lib.ListN.{getD, length}
+use mathlib.Core.Bool.{false, not}
+use mathlib.Core.List.{List}
+use lib.ListN.{length}
 use lib.Dec.{eqb}
-use lib.Ieee.{Float, binary32, neg, lt, ne, ofInt}
-use Rattle.labels.specs.Outcome.{Outcome, refused, given}
-use Rattle.labels.specs.Lists.{scan, all, modify, atOr}
-use Rattle.labels.specs.Single.{_+ᶠ_, _-ᶠ_, _*ᶠ_, _/ᶠ_, +0, two, ofNat, thousandth, isZero, isPositive}
-use Rattle.labels.specs.Job.{Job, Font, Span, fontAt, spanAt, topToBottom, adjustSpacingAndGlyphs, hasLength}
+use lib.Ieee.{Float, binary32, neg, lt, ofInt}
+use Rattle.labels.specs.Single.{_+ᶠ_, _-ᶠ_, _*ᶠ_, _/ᶠ_, +0, two, ofNat, isPositive}
+use Rattle.labels.specs.Job.{Font, Span, fontAt, spanAt}
 use Rattle.labels.specs.Group.{Group}
 use Rattle.labels.specs.Kind.{Kind, measure, sumAdvance, maxAdvance}
-use Rattle.labels.specs.LengthAdjust.{clusterIndexes, sumAt, adjustSpacingOf}
-use Rattle.labels.specs.Position.{characterNumber}
 
 -- ---- demand 2's kind of number: every operation rounded once
 
@@ -76,53 +71,3 @@ formGlyphClusters fonts spans g =
       y = +0;
       angle = +0;
     }
-
--- ---- step 3, top to bottom: nudge is (ascent + descent) ÷ 2; of an upright cluster ascent and descent become plus and minus half the width
-
-unfoldable pub turned : Cluster → Cluster
-turned c =
-    let nudge = (c .ascent +ᶠ c .descent) /ᶠ two in
-    cond (c .upright) (withHeight (c .width /ᶠ two) (neg (c .width) /ᶠ two) nudge c) (withHeight (c .ascent) (c .descent) nudge c)
-
-unfoldable pub applyWritingMode : ℕ → List Cluster → List Cluster
-applyWritingMode mode cs = cond (eqb mode topToBottom) (map turned cs) cs
-
--- ---- step 6
-
-abbrev pub widthOf : Cluster → Float
-widthOf c = c .width
-
--- SpacingAndGlyphs: the factor is target ÷ widths; below 0.001 it is skipped
-unfoldable pub scaledBy : Float → List Cluster → List ℕ → List Cluster
-scaledBy factor cs is = cond (lt factor thousandth) cs (foldl (modify (withScale factor)) cs is)
-
--- 9 where clusters take part and their widths are all zero
-unfoldable pub adjustGlyphsOf : Span → List Cluster → List ℕ → Outcome (List Cluster)
-adjustGlyphsOf s cs [] = given cs
-adjustGlyphsOf s cs (i ∷ is) =
-    cond (all (λ (k : ℕ). isZero (atOr +0 widthOf cs k)) (i ∷ is)) (refused 9)
-    (given (scaledBy (s .length /ᶠ sumAt rounded widthOf cs (i ∷ is)) cs (i ∷ is)))
-
--- the next span, which may have no text length
-unfoldable pub adjustSpan : Outcome (List Cluster) → Span → Outcome (List Cluster)
-adjustSpan (refused n) s = refused n
-adjustSpan (given cs) s =
-    cond (hasLength s)
-    (cond (eqb (s .adjust) adjustSpacingAndGlyphs) (adjustGlyphsOf s cs (clusterIndexes rounded s cs)) (given (adjustSpacingOf rounded s cs)))
-    (given cs)
-
-unfoldable pub applyLengthAdjust : List Span → List Cluster → Outcome (List Cluster)
-applyLengthAdjust spans cs = foldl adjustSpan (given cs) spans
-
--- ---- step 7's marks, from the shifts, before the clusters are placed
-
--- a relative shift: the shift is not that of the cluster before, or the cluster is rotated
-unfoldable pub marked : Job → List ℕ → ℕ → Cluster → Cluster → Cluster
-marked job text offset before c =
-    let angle = getD (job .rotate) (characterNumber text offset (c .index)) +0 in
-    let rotated = not (isZero angle) in
-    withMarks (ne (c .x) (before .x) || ne (c .y) (before .y) || rotated) rotated (cond rotated angle +0) c
-
-unfoldable pub markRelativeShifts : Job → List ℕ → ℕ → List Cluster → List Cluster
-markRelativeShifts job text offset [] = []
-markRelativeShifts job text offset (c ∷ cs) = scan (λ (before d : Cluster). d) (marked job text offset) c (c ∷ cs)

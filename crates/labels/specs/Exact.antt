@@ -17,7 +17,8 @@ use Rattle.labels.specs.Utf8.{characters}
 use Rattle.labels.specs.Merge.{mergeGlyphs}
 use Rattle.labels.specs.Group.{Group, groups}
 use Rattle.labels.specs.Kind.{Kind, glyphAdvance, sumAdvance, maxAdvance}
-use Rattle.labels.specs.Spacing.{applyLetterSpacing, applyWordSpacing}
+use Rattle.labels.specs.LetterSpacing.{applyLetterSpacing}
+use Rattle.labels.specs.WordSpacing.{applyWordSpacing}
 use Rattle.labels.specs.LengthAdjust.{adjustSpacingOf}
 use Rattle.labels.specs.Position.{characterNumber, resolveRelativeShifts, turnShifts, positioned}
 use Rattle.labels.specs.Cluster.{Cluster}
@@ -35,6 +36,11 @@ pub record ExactCluster : Type 0 where
   pub spacing : Frac
   pub x : Frac
   pub y : Frac
+
+-- with other numbers along the line
+abbrev pub withFractions : Frac → Frac → Frac → Frac → Frac → ExactCluster → ExactCluster
+withFractions width advance spacing x y c =
+    record { group = c .group; collapsed = c .collapsed; width = width; advance = advance; spacing = spacing; x = x; y = y }
 
 -- every operation and comparison is done on fractions; the choice of step 4 is the rounded one
 abbrev pub exact : Kind
@@ -59,11 +65,11 @@ exact =
       spacing = λ c. c .spacing;
       x = λ c. c .x;
       y = λ c. c .y;
-      withAdvance = λ a c. record { group = c .group; collapsed = c .collapsed; width = c .width; advance = a; spacing = c .spacing; x = c .x; y = c .y };
-      withSpacing = λ a l c. record { group = c .group; collapsed = c .collapsed; width = c .width; advance = a; spacing = l; x = c .x; y = c .y };
-      withShift = λ x y c. record { group = c .group; collapsed = c .collapsed; width = c .width; advance = c .advance; spacing = c .spacing; x = x; y = y };
+      withAdvance = λ a c. withFractions (c .width) a (c .spacing) (c .x) (c .y) c;
+      withSpacing = λ a l c. withFractions (c .width) a l (c .x) (c .y) c;
+      withShift = λ x y c. withFractions (c .width) (c .advance) (c .spacing) x y c;
       collapses = λ c. c .collapsed;
-      collapse = λ c. record { group = c .group; collapsed = c .collapsed; width = 0ᵠ; advance = 0ᵠ; spacing = c .spacing; x = c .x; y = c .y };
+      collapse = λ c. withFractions 0ᵠ 0ᵠ (c .spacing) (c .x) (c .y) c;
     }
 
 -- step 2: a group's cluster, beside the one that the rounded steps 2 to 4 make of it

@@ -1,6 +1,5 @@
 -- The whole call: from a job's bytes to the answer's, or the refusal. Definitions only.
 use Prim.Native.Nat.{ℕ, _+_}
-use mathlib.Core.Path.{_≡_}
 use mathlib.Core.Bool.{Bool, cond}
 use mathlib.Core.List.{List, [], _∷_, _++_, map, foldl}
 use lib.ListN.{length, take, drop}
@@ -14,9 +13,12 @@ use Rattle.labels.specs.Job.{Job, Chunk, SpanParts, Glyph, hasX, hasY, s
 use Rattle.labels.specs.Check.{checked}
 use Rattle.labels.specs.Merge.{mergeGlyphs}
 use Rattle.labels.specs.Group.{groups}
-use Rattle.labels.specs.Spacing.{applyLetterSpacing, applyWordSpacing}
-use Rattle.labels.specs.Position.{Positioned, resolveRelativeShifts, turnShifts, positioned}
-use Rattle.labels.specs.Cluster.{Cluster, rounded, formGlyphClusters, applyWritingMode, applyLengthAdjust, markRelativeShifts}
+use Rattle.labels.specs.LetterSpacing.{applyLetterSpacing}
+use Rattle.labels.specs.WordSpacing.{applyWordSpacing}
+use Rattle.labels.specs.Position.{Positioned, resolveRelativeShifts, turnShifts, positioned, markRelativeShifts}
+use Rattle.labels.specs.Cluster.{Cluster, rounded, formGlyphClusters}
+use Rattle.labels.specs.WritingMode.{applyWritingMode}
+use Rattle.labels.specs.LengthAdjust.{applyLengthAdjust}
 use Rattle.labels.specs.Baseline.{resolveBaseline}
 use Rattle.labels.specs.Decoration.{collectDecorationSpans, underOffset, overOffset, throughOffset, thicknessOf}
 use Rattle.labels.specs.Answer.{Point, GlyphRow, ClusterRow, SpanRow, ChunkRow, answerBytes}
@@ -105,11 +107,10 @@ spanRows job origin cs k (p ∷ ps) =
 
 -- ---- the chunks in order
 
--- a chunk's row, with what is laid out and not written: its extent (right less left), and the place of each cluster's covering span
+-- a chunk's row, with what is laid out and not written: its extent (right less left)
 pub record LaidChunk : Type 0 where
   pub row : ChunkRow
   pub extent : Float
-  pub covering : List ℕ
 
 -- the pen, how many characters came before, the extent of the last chunk, and the chunks laid out
 pub record Progress : Type 0 where
@@ -138,14 +139,14 @@ advanced st c pen laid = record { pen = pen; offset = st .offset + characters (c
 unfoldable pub placeChunk : Job → Progress → Chunk → List Glyph → List Cluster → Progress
 placeChunk job st c gs [] =
     let pen = st .pen in
-    advanced st c pen (record { row = record { penX = pen .x; penY = pen .y; clusters = []; spans = [] }; extent = +0; covering = [] })
+    advanced st c pen (record { row = record { penX = pen .x; penY = pen .y; clusters = []; spans = [] }; extent = +0 })
 placeChunk job st c gs (k ∷ ks) =
     let origin = originOf (st .pen) c in
     let p = resolveClustersPositionsHorizontal job (st .offset) c (k ∷ ks) in
     let cs = p .clusters in
     let pen = penAfter (job .mode) origin (p .endX) (p .endY) in
     let row : ChunkRow = record { penX = pen .x; penY = pen .y; clusters = map (clusterRow (job .mode) gs) cs; spans = spanRows job origin cs 0 (c .parts) } in
-    advanced st c pen (record { row = row; extent = p .extent; covering = map (λ (d : Cluster). d .span) cs })
+    advanced st c pen (record { row = row; extent = p .extent })
 
 -- the next chunk: 7 or 8 from the merge, then 9 from step 6
 unfoldable pub layoutChunk : Job → Outcome Progress → Chunk → Outcome Progress
@@ -186,9 +187,3 @@ lengthOf (given answer) = length answer
 abbrev pub bufferAfter : Outcome (List ℕ) → List ℕ → List ℕ
 bufferAfter (refused n) old = old
 bufferAfter (given answer) old = answer ++ drop (length answer) old
-
--- the number `told`, the length `long`, and the bytes `new` of a buffer that held `old`, are those of an outcome
-pub record Answers (o : Outcome (List ℕ)) (old : List ℕ) (told long : ℕ) (new : List ℕ) : Type 0 where
-  pub number : told ≡ numberOf o
-  pub written : long ≡ lengthOf o
-  pub buffer : new ≡ bufferAfter o old

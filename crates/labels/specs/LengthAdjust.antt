@@ -1,16 +1,22 @@
--- Step 6: text length, by Spacing or by the natural length. (SpacingAndGlyphs changes no advance: Cluster.) Definitions only.
+-- Step 6: text length, by Spacing, by SpacingAndGlyphs or by the natural length. Definitions only.
 use Prim.Native.Nat.{ℕ, _+_, _-_}
 use mathlib.Core.Bool.{not, cond, _&&_}
 use mathlib.Core.List.{List, [], _∷_, foldl}
 use lib.ListN.{length}
 use lib.Dec.{ltb, eqb}
-use lib.Ieee.{Float}
-use Rattle.labels.specs.Lists.{among, modify, atOr}
-use Rattle.labels.specs.Job.{Span, adjustNatural}
+use lib.Ieee.{Float, lt}
+use Rattle.labels.specs.Outcome.{Outcome, refused, given}
+use Rattle.labels.specs.Lists.{all, among, modify, atOr}
+use Rattle.labels.specs.Single.{_/ᶠ_, +0, thousandth, isZero}
+use Rattle.labels.specs.Job.{Span, adjustSpacingAndGlyphs, adjustNatural, hasLength}
 use Rattle.labels.specs.Merge.{spanContains}
 use Rattle.labels.specs.Kind.{Kind, indexes}
+use Rattle.labels.specs.ClusterParts.{withScale}
+use Rattle.labels.specs.Cluster.{Cluster, rounded}
 
--- ---- the places of the clusters that take part, from their byte indexes: those that the span covers, and of one byte index only the first.
+-- ---- the clusters that take part
+
+-- their places, from their byte indexes: those that the span covers, and of one byte index only the first.
 -- `seen` has the byte indexes before, and the first of the rest stands at place k
 unfoldable pub placesFrom : Span → List ℕ → ℕ → List ℕ → List ℕ
 placesFrom s seen k [] = []
@@ -48,3 +54,30 @@ module _ (K : Kind) where
       let is = clusterIndexes s cs in
       let factor = spacingFactor (s .length) (sumAt (takenOf s) cs is) (length is) in
       foldl (modify (stretchedBy s factor)) cs is
+
+-- ---- SpacingAndGlyphs, and the spans in order: clusters of the rounded layout
+
+abbrev pub widthOf : Cluster → Float
+widthOf c = c .width
+
+-- SpacingAndGlyphs: the factor is target ÷ widths; below 0.001 it is skipped
+unfoldable pub scaledBy : Float → List Cluster → List ℕ → List Cluster
+scaledBy factor cs is = cond (lt factor thousandth) cs (foldl (modify (withScale factor)) cs is)
+
+-- 9 where clusters take part and their widths are all zero
+unfoldable pub adjustGlyphsOf : Span → List Cluster → List ℕ → Outcome (List Cluster)
+adjustGlyphsOf s cs [] = given cs
+adjustGlyphsOf s cs (i ∷ is) =
+    cond (all (λ (k : ℕ). isZero (atOr +0 widthOf cs k)) (i ∷ is)) (refused 9)
+    (given (scaledBy (s .length /ᶠ sumAt rounded widthOf cs (i ∷ is)) cs (i ∷ is)))
+
+-- the next span, which may have no text length
+unfoldable pub adjustSpan : Outcome (List Cluster) → Span → Outcome (List Cluster)
+adjustSpan (refused n) s = refused n
+adjustSpan (given cs) s =
+    cond (hasLength s)
+    (cond (eqb (s .adjust) adjustSpacingAndGlyphs) (adjustGlyphsOf s cs (clusterIndexes rounded s cs)) (given (adjustSpacingOf rounded s cs)))
+    (given cs)
+
+unfoldable pub applyLengthAdjust : List Span → List Cluster → Outcome (List Cluster)
+applyLengthAdjust spans cs = foldl adjustSpan (given cs) spans

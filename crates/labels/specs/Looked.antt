@@ -7,7 +7,8 @@ use Rattle.labels.specs.Outcome.{Outcome, refused, given}
 use Rattle.labels.specs.Job.{Span, hasLength}
 use Rattle.labels.specs.Merge.{spanContains}
 use Rattle.labels.specs.Kind.{indexes}
-use Rattle.labels.specs.Cluster.{Cluster, rounded, adjustSpan}
+use Rattle.labels.specs.Cluster.{Cluster, rounded}
+use Rattle.labels.specs.LengthAdjust.{adjustSpan}
 
 -- ---- of one span, from the byte indexes of all clusters
 

@@ -1,14 +1,17 @@
 -- Step 7: positions along the line, `resolve_clusters_positions_horizontal` of source document 000. Definitions only.
 use Prim.Native.Nat.{ℕ, suc, _+_}
-use mathlib.Core.Bool.{cond}
+use mathlib.Core.Bool.{cond, not, _||_}
 use mathlib.Core.List.{List, [], _∷_, map, foldl}
 use lib.ListN.{getD}
 use lib.Dec.{leb, eqb}
+use lib.Ieee.{Float, ne}
 use Rattle.labels.specs.Lists.{scan, modify, atOr}
-use Rattle.labels.specs.Single.{+0}
+use Rattle.labels.specs.Single.{+0, isZero}
 use Rattle.labels.specs.Job.{Job, topToBottom, anchorStart, anchorMiddle}
 use Rattle.labels.specs.Utf8.{codePointAt}
 use Rattle.labels.specs.Kind.{Kind, least, greatest, indexes}
+use Rattle.labels.specs.ClusterParts.{withMarks}
+use Rattle.labels.specs.Cluster.{Cluster}
 
 -- ---- text order (the Rust's logical_order), from the byte indexes alone
 
@@ -40,6 +43,23 @@ lastPlace es = foldl (λ (k : ℕ) (e : Entry). e .place) 0 es
 -- the number, in the whole job, of the character at byte index i; `offset` characters come before the chunk
 abbrev pub characterNumber : List ℕ → ℕ → ℕ → ℕ
 characterNumber text offset i = offset + codePointAt text i
+
+-- ---- marks of the rounded layout, from the shifts, before the clusters are placed
+
+-- a relative shift: the shift is not that of the cluster before, or the cluster is rotated, which it is unless its angle is zero
+unfoldable pub markedBy : Float → Cluster → Cluster → Cluster
+markedBy angle before c =
+    let rotated = not (isZero angle) in
+    withMarks (ne (c .x) (before .x) || ne (c .y) (before .y) || rotated) rotated (cond rotated angle +0) c
+
+-- the angle is that of its character
+unfoldable pub marked : Job → List ℕ → ℕ → Cluster → Cluster → Cluster
+marked job text offset before c = markedBy (getD (job .rotate) (characterNumber text offset (c .index)) +0) before c
+
+-- each cluster beside the one before it, the first beside itself
+unfoldable pub markRelativeShifts : Job → List ℕ → ℕ → List Cluster → List Cluster
+markRelativeShifts job text offset [] = []
+markRelativeShifts job text offset (c ∷ cs) = scan (λ (before d : Cluster). d) (marked job text offset) c (c ∷ cs)
 
 -- ---- along the line
 

@@ -7,10 +7,10 @@ use lib.ListN.{length}
 use lib.Dec.{T, eqb→eq}
 use lib.Ieee.{Float, binary32, fits, ofBits, eq}
 use lib.Ieee.Bits.{ofBits-fits, ofBits-toBits}
-use Rattle.laws.proofs.All.{All, all-of, all-every, all-rows, both, first, rest}
+use Rattle.laws.proofs.All.{all-of, all-every, all-rows, both, first, rest}
 use Rattle.laws.proofs.Outcomes.{reached, passesUnder, passed-under}
 use Rattle.labels.specs.Outcome.{given, firstFailing}
-use Rattle.labels.specs.Lists.{all}
+use Rattle.labels.specs.Lists.{all, All}
 use Rattle.labels.specs.Bytes.{float}
 use Rattle.labels.specs.Single.{isZeroBits}
 use Rattle.labels.specs.declared.Span.{Span}

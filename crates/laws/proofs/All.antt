@@ -8,12 +8,8 @@ use mathlib.Core.List.{List, [], _∷_, _++_, map, foldl}
 use lib.ListN.{length, take, drop, set, getD}
 use lib.Dec.{T}
 use lib.Ieee.Fits.{and-l, and-r}
-use Rattle.labels.specs.Lists.{all, any, every, modify, scan}
+use Rattle.labels.specs.Lists.{All, all, any, every, modify, scan}
 use Rattle.labels.specs.Bytes.{rows}
-
-pub data All {A : Type 0} (P : A → Type 0) : List A → Type 0 where
-  none : All P []
-  more : {x : A} {xs : List A} → P x → All P xs → All P (x ∷ xs)
 
 -- a test that passes everywhere
 pub all-of : {A : Type 0} (p : A → Bool) (xs : List A) → T (all p xs) → All (λ x. T (p x)) xs

@@ -6,12 +6,13 @@ use native.Mathlib.Nat.{le-refl}
 use native.Mathlib.Omega.{arith}
 use lib.ListN.{length, drop, length-take, length-drop}
 use lib.Dec.{T, leb→le, eqb→eq}
-use Rattle.laws.proofs.All.{All, all-of, all-every, first, rest}
+use Rattle.laws.proofs.All.{all-of, all-every, first, rest}
+use Rattle.labels.specs.Lists.{All}
 use Rattle.laws.proofs.IfGiven.{IfGiven, if-given, of-given, given-then}
 use Rattle.laws.proofs.Records.{length-rows}
 use Rattle.laws.proofs.Outcomes.{reached}
 use Rattle.laws.proofs.Accepted.{accepted}
-use Rattle.laws.proofs.AnswerLength.{length-answer}
+use Rattle.laws.proofs.AnswerLength.{length-answer, answerLength}
 use Rattle.laws.proofs.Sums.{total, total-append, total-counted, total-rows}
 use Rattle.laws.proofs.MergedLength.{glyphRowsIn, merged-length}
 use Rattle.laws.proofs.GlyphsShared.{Shared, adjusted-share}
@@ -24,7 +25,7 @@ use Rattle.labels.specs.Job.{Job, Chunk, SpanParts, limits}
 use Rattle.labels.specs.Decode.{glyphBytes, partsOf, glyphsAt, spanSize, chunkOf, textAt, textSize, spansAt, spanCount, spanBytes, chunkSize, jobOf, shaped, chunksAt, chunkCountBytes, chunkCount, chunkBytes}
 use Rattle.labels.specs.Check.{checked, afterVersion, lengthOk, spansOk}
 use Rattle.labels.specs.Merge.{mergeGlyphs}
-use Rattle.labels.specs.Answer.{ChunkRow, chunkRowBytes, answerBytes, answerLength, chunkRowLength}
+use Rattle.labels.specs.Answer.{ChunkRow, chunkRowBytes, answerBytes, chunkRowLength}
 use Rattle.labels.specs.Layout.{adjustedClusters, Progress, beginning, placeChunk, layoutChunk, layoutJob, rowsOf, layoutRows}
 
 -- ---- what a chunk has in the job at least: a glyph 25 bytes, a span 29 and its glyphs, a chunk 14, its text and its spans

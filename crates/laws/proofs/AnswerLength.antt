@@ -7,7 +7,7 @@ use lib.ListN.{length, length-append}
 use lib.Ieee.{Float}
 use Rattle.labels.specs.Bytes.{floatBytes}
 use Rattle.labels.specs.declared.Run.{Run}
-use Rattle.labels.specs.Answer.{GlyphRow, ClusterRow, SpanRow, ChunkRow, glyphRowBytes, clusterRowBytes, runBytes, spanRowBytes, chunkRowBytes, answerBody, answerBytes, sum, glyphRowSize, runSize, clusterRowLength, spanRowLength, chunkRowLength, answerLength}
+use Rattle.labels.specs.Answer.{GlyphRow, ClusterRow, SpanRow, ChunkRow, glyphRowBytes, clusterRowBytes, runBytes, spanRowBytes, chunkRowBytes, answerBody, answerBytes, sum, glyphRowSize, runSize, answerHeadSize, clusterRowLength, spanRowLength, chunkRowLength}
 use Rattle.laws.proofs.Numbers.{length-bytes, length-floatBytes}
 
 -- ---- rows one after the other
@@ -55,6 +55,9 @@ length-chunkRow c =
     simp (length-append, length-bytes, length-floatBytes, length-flatMap clusterRowBytes clusterRowLength length-clusterRow (c .clusters), length-flatMap spanRowBytes spanRowLength length-spanRow (c .spans)) (omega arith)
 
 -- ---- the answer
+
+unfoldable pub answerLength : List ChunkRow → ℕ
+answerLength cs = answerHeadSize + sum (map chunkRowLength cs)
 
 pub length-answer : (cs : List ChunkRow) → length (answerBytes cs) ≡ answerLength cs
 unfolding answerBytes answerBody answerLength

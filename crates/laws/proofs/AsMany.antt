@@ -12,9 +12,10 @@ use Rattle.labels.specs.declared.Glyph.{Glyph}
 use Rattle.labels.specs.Job.{Job, Chunk, spansOf, topToBottom}
 use Rattle.labels.specs.Group.{groups}
 use Rattle.labels.specs.Kind.{Kind}
-use Rattle.labels.specs.Spacing.{applyLetterSpacing, nextLetterSpaced}
+use Rattle.labels.specs.LetterSpacing.{applyLetterSpacing, nextLetterSpaced}
 use Rattle.labels.specs.declared.Cluster.{Cluster}
-use Rattle.labels.specs.Cluster.{rounded, formGlyphClusters, turned, applyWritingMode}
+use Rattle.labels.specs.Cluster.{rounded, formGlyphClusters}
+use Rattle.labels.specs.WritingMode.{turned, applyWritingMode}
 use Rattle.labels.specs.Layout.{collapsedClusters}
 
 pub length-scan : {A S : Type 0} (next : S → A → S) (f : S → A → A) (s : S) (xs : List A) → length (scan next f s xs) ≡ length xs

@@ -3,7 +3,8 @@ use Prim.Native.Nat.{ℕ}
 use mathlib.Core.Path.{_≡_}
 use mathlib.Core.List.{List}
 use lib.Dec.{T}
-use Rattle.laws.proofs.All.{All, all-of, all-every, both, first, rest}
+use Rattle.laws.proofs.All.{all-of, all-every, both, first, rest}
+use Rattle.labels.specs.Lists.{All}
 use Rattle.laws.proofs.Counted.{CountedParts, CountedChunk, chunk-counted}
 use Rattle.laws.proofs.Merged.{Kept, SpanKept, merged-keeps}
 use Rattle.labels.specs.Outcome.{given}

@@ -6,14 +6,14 @@ use lib.ListN.{length, getD}
 use lib.Dec.{eqb, ltb}
 use lib.Ieee.{Float, binary32, lt}
 use lib.Ieee.Fits.{add-fits, mul-fits, div-fits, neg-fits}
-use Rattle.laws.proofs.All.{All, all-getD, fold-keeps, cond-keeps}
+use Rattle.laws.proofs.All.{all-getD, fold-keeps, cond-keeps}
 use Rattle.laws.proofs.Few.{Few, few-map, few-scan, few-modify, few-modifies}
 use Rattle.laws.proofs.IfGiven.{IfGiven}
 use Rattle.laws.proofs.ReadBack.{Fits}
 use Rattle.laws.proofs.GroupsKeep.{groups-keep}
 use Rattle.laws.proofs.FitCluster.{FitCluster, FitClusters, zero-fits, line-fits, height-fits, scale-fits, marks-fit, collapsed-fits, advance-fits, shift-fits}
 use Rattle.labels.specs.Outcome.{Outcome, refused, given}
-use Rattle.labels.specs.Lists.{any, all, atOr}
+use Rattle.labels.specs.Lists.{any, all, atOr, All}
 use Rattle.labels.specs.Single.{+0, isZero, thousandth}
 use Rattle.labels.specs.declared.Font.{Font}
 use Rattle.labels.specs.declared.Span.{Span}
@@ -22,12 +22,14 @@ use Rattle.labels.specs.Job.{Job, Chunk, limits, spansOf, hasLength, adjustSpac
 use Rattle.labels.specs.Group.{Group}
 use Rattle.labels.specs.Script.{scriptSupportsLetterSpacing, isWordSeparatorAt}
 use Rattle.labels.specs.Kind.{glyphAdvance, sumAdvance, maxAdvance, indexes}
-use Rattle.labels.specs.Spacing.{settled, letterSpaced, nextLetterSpaced, applyLetterSpacing, wordSpaced, applyWordSpacing}
-use Rattle.labels.specs.LengthAdjust.{clusterIndexes, sumAt, spacingFactor, takenOf, stretchedBy, adjustSpacingOf}
-use Rattle.labels.specs.Position.{Entry, Shifting, logicalOrder, characterNumber, shiftNext, resolveRelativeShifts, turnShift, turnShifts, placedFrom, positioned}
+use Rattle.labels.specs.LetterSpacing.{settled, letterSpaced, nextLetterSpaced, applyLetterSpacing}
+use Rattle.labels.specs.WordSpacing.{wordSpaced, applyWordSpacing}
+use Rattle.labels.specs.LengthAdjust.{clusterIndexes, sumAt, spacingFactor, takenOf, stretchedBy, adjustSpacingOf, widthOf, scaledBy, adjustGlyphsOf, adjustSpan, applyLengthAdjust}
+use Rattle.labels.specs.Position.{Entry, Shifting, logicalOrder, characterNumber, shiftNext, resolveRelativeShifts, turnShift, turnShifts, placedFrom, positioned, marked, markedBy, markRelativeShifts}
 use Rattle.labels.specs.ClusterParts.{withScale}
 use Rattle.labels.specs.declared.Cluster.{Cluster}
-use Rattle.labels.specs.Cluster.{rounded, formGlyphClusters, turned, applyWritingMode, widthOf, scaledBy, adjustGlyphsOf, adjustSpan, applyLengthAdjust, marked, markRelativeShifts}
+use Rattle.labels.specs.Cluster.{rounded, formGlyphClusters}
+use Rattle.labels.specs.WritingMode.{turned, applyWritingMode}
 use Rattle.labels.specs.Layout.{collapsedClusters, adjustedClusters, resolveClustersPositionsHorizontal}
 
 -- ---- step 2
@@ -148,7 +150,7 @@ turned-shifts-fit mode k =
     cond-keeps FitClusters (eqb mode topToBottom) (few-map FitCluster (turnShift rounded) (λ c h. shift-fits c h (h .y) (neg-fits binary32 (c .x) (h .x))) k) k
 
 mark-fits : (job : Job) (text : List ℕ) (offset : ℕ) → All Fits (job .rotate) → (before c : Cluster) → FitCluster c → FitCluster (marked job text offset before c)
-unfolding marked
+unfolding marked markedBy
 mark-fits job text offset r before c h =
     let n = characterNumber text offset (c .index) in
     marks-fit c h _ _ (cond-keeps Fits (not (isZero (getD (job .rotate) n +0))) (all-getD n +0 zero-fits r) zero-fits)

@@ -8,7 +8,8 @@ use native.Mathlib.Omega.{arith}
 use lib.ListN.{length, drop, length-take}
 use lib.Dec.{T, leb→le, lit<}
 use lib.Ieee.Fits.{and-l, and-r}
-use Rattle.laws.proofs.All.{All, all-every, all-getD, first, rest}
+use Rattle.laws.proofs.All.{all-every, all-getD, first, rest}
+use Rattle.labels.specs.Lists.{All}
 use Rattle.laws.proofs.Records.{length-rows}
 use Rattle.laws.proofs.Accepted.{accepted}
 use Rattle.labels.specs.Outcome.{given}

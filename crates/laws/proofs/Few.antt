@@ -3,9 +3,9 @@ use Prim.Native.Nat.{ℕ, zero, suc, _≤_}
 use mathlib.Core.Path.{_≡_, refl, ap}
 use mathlib.Core.List.{List, [], _∷_, map, foldl}
 use lib.ListN.{length, length-map}
-use Rattle.laws.proofs.All.{All, all-map, all-modify, all-scan, fold-keeps}
+use Rattle.laws.proofs.All.{all-map, all-modify, all-scan, fold-keeps}
 use Rattle.laws.proofs.AsMany.{length-scan}
-use Rattle.labels.specs.Lists.{modify, scan}
+use Rattle.labels.specs.Lists.{modify, scan, All}
 
 pub record Few {A : Type 0} (P : A → Type 0) (n : ℕ) (xs : List A) : Type 0 where
   pub each : All P xs

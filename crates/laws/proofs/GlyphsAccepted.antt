@@ -6,12 +6,12 @@ use mathlib.Core.List.{List}
 use lib.ListN.{length}
 use lib.Dec.{T}
 use lib.Ieee.Fits.{and-r}
-use Rattle.laws.proofs.All.{All, all-of, all-every, all-read, all-drop, both, first, rest}
+use Rattle.laws.proofs.All.{all-of, all-every, all-read, all-drop, both, first, rest}
 use Rattle.laws.proofs.Accepted.{accepted}
 use Rattle.laws.proofs.Counted.{IsByte, be-below, CountedParts, CountedChunk, counted}
 use Rattle.laws.proofs.Merged.{Kept, SpanKept, merged-keeps}
 use Rattle.labels.specs.Outcome.{given}
-use Rattle.labels.specs.Lists.{all}
+use Rattle.labels.specs.Lists.{all, All}
 use Rattle.labels.specs.declared.Glyph.{Glyph}
 use Rattle.labels.specs.Job.{Job, Chunk, SpanParts}
 use Rattle.labels.specs.Decode.{jobOf, chunkOf, partsOf, glyphOf, glyphsAt, spansAt, spanBytes, chunksAt, chunkCountBytes, chunkBytes}

@@ -24,12 +24,14 @@ use Rattle.labels.specs.Job.{Job, Chunk, spansOf, hasLength, adjustSpacingAndGl
 use Rattle.labels.specs.Group.{Group, chunkSpanAt, joinRun, glyphRuns, coveredRuns, groups}
 use Rattle.labels.specs.Script.{scriptSupportsLetterSpacing, isWordSeparatorAt}
 use Rattle.labels.specs.Kind.{indexes}
-use Rattle.labels.specs.Spacing.{settled, letterSpaced, nextLetterSpaced, applyLetterSpacing, wordSpaced, applyWordSpacing}
-use Rattle.labels.specs.LengthAdjust.{clusterIndexes, adjustSpacingOf}
-use Rattle.labels.specs.Position.{Entry, Shifting, logicalOrder, shiftNext, resolveRelativeShifts, turnShift, turnShifts, placedFrom, positioned}
+use Rattle.labels.specs.LetterSpacing.{settled, letterSpaced, nextLetterSpaced, applyLetterSpacing}
+use Rattle.labels.specs.WordSpacing.{wordSpaced, applyWordSpacing}
+use Rattle.labels.specs.LengthAdjust.{clusterIndexes, adjustSpacingOf, widthOf, scaledBy, adjustGlyphsOf, adjustSpan, applyLengthAdjust}
+use Rattle.labels.specs.Position.{Entry, Shifting, logicalOrder, shiftNext, resolveRelativeShifts, turnShift, turnShifts, placedFrom, positioned, marked, markedBy, markRelativeShifts}
 use Rattle.labels.specs.ClusterParts.{withScale}
 use Rattle.labels.specs.declared.Cluster.{Cluster}
-use Rattle.labels.specs.Cluster.{rounded, formGlyphClusters, turned, applyWritingMode, widthOf, scaledBy, adjustGlyphsOf, adjustSpan, applyLengthAdjust, marked, markRelativeShifts}
+use Rattle.labels.specs.Cluster.{rounded, formGlyphClusters}
+use Rattle.labels.specs.WritingMode.{turned, applyWritingMode}
 use Rattle.labels.specs.Layout.{collapsedClusters, adjustedClusters, resolveClustersPositionsHorizontal}
 
 -- ---- the groups of a merged list
@@ -204,7 +206,7 @@ module _ {n m : ℕ} where
   turns-share mode k = cond-keeps (Shared n m) (eqb mode topToBottom) (shared-map (turnShift rounded) (λ c. le-refl _) k) k
 
   marks-share : (job : Job) (text : List ℕ) (offset : ℕ) (cs : List Cluster) → Shared n m cs → Shared n m (markRelativeShifts job text offset cs)
-  unfolding markRelativeShifts marked
+  unfolding markRelativeShifts marked markedBy
   marks-share job text offset [] k = k
   marks-share job text offset (c ∷ cs) k = shared-scan _ (marked job text offset) (λ before d. le-refl _) c k
 

@@ -5,7 +5,8 @@ use mathlib.Core.List.{List, _∷_}
 use native.Mathlib.Omega.{arith}
 use lib.ListN.{length}
 use lib.Dec.{eqb, ltb}
-use Rattle.laws.proofs.All.{All, cond-keeps}
+use Rattle.laws.proofs.All.{cond-keeps}
+use Rattle.labels.specs.Lists.{All}
 use Rattle.laws.proofs.Few.{Few}
 use Rattle.labels.specs.declared.Glyph.{Glyph}
 use Rattle.labels.specs.declared.Span.{Span}

@@ -6,9 +6,9 @@ use mathlib.Core.List.{List, [], _∷_, foldl}
 use native.Mathlib.Omega.{arith}
 use lib.ListN.{length, length-append, length-take, length-drop, length-set}
 use lib.Dec.{leb, ltb, ltb→lt, lit≤, T}
-use Rattle.laws.proofs.All.{All, all-append, all-take, all-drop, all-set}
+use Rattle.laws.proofs.All.{all-append, all-take, all-drop, all-set}
 use Rattle.labels.specs.Outcome.{Outcome, refused, given}
-use Rattle.labels.specs.Lists.{among}
+use Rattle.labels.specs.Lists.{among, All}
 use Rattle.labels.specs.declared.Glyph.{Glyph}
 use Rattle.labels.specs.declared.Span.{Span}
 use Rattle.labels.specs.Job.{SpanParts, limits}

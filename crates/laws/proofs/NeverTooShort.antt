@@ -19,7 +19,7 @@ use Rattle.labels.specs.declared.Cluster.{Cluster}
 use Rattle.labels.specs.Job.{Job, Chunk, SpanParts, limits, spansOf, hasLength, adjustSpacingAndGlyphs}
 use Rattle.labels.specs.Check.{checks, checked}
 use Rattle.labels.specs.Merge.{Merging, halted, merging, spanContains, placeOf, replaceLonger, replace, insertNext, replaceFirst, mergeGlyph, mergeDone, mergeSpan, mergeGlyphs}
-use Rattle.labels.specs.Cluster.{widthOf, adjustGlyphsOf, adjustSpan, applyLengthAdjust}
+use Rattle.labels.specs.LengthAdjust.{widthOf, adjustGlyphsOf, adjustSpan, applyLengthAdjust}
 use Rattle.labels.specs.Answer.{ChunkRow, answerBytes}
 use Rattle.labels.specs.Layout.{adjustedClusters, Progress, beginning, layoutChunk, layoutJob, layoutRows, fitting, layoutOf, numberOf, lengthOf}
 

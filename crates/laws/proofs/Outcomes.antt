@@ -7,9 +7,9 @@ use mathlib.Core.List.{List, [], _∷_, map}
 use native.Mathlib.Omega.{arith}
 use lib.ListN.{length, drop, getD, drop-of-length-le}
 use lib.Dec.{T, eqb}
-use Rattle.laws.proofs.All.{All, all-of, cond-keeps}
+use Rattle.laws.proofs.All.{all-of, cond-keeps}
 use Rattle.labels.specs.Outcome.{Outcome, refused, given, andThen, Check, firstFailing}
-use Rattle.labels.specs.Lists.{all}
+use Rattle.labels.specs.Lists.{all, All}
 
 -- a step that gives a value was reached
 pub reached : {A B : Type 0} (o : Outcome A) (f : A → Outcome B) (b : B) → andThen o f ≡ given b → (a : A) × (o ≡ given a) × (f a ≡ given b)

@@ -7,7 +7,7 @@ use lib.ListN.{length, drop, length-append}
 use lib.Seq.{drop-append-seam}
 use lib.Dec.{T}
 use lib.Ieee.{Float, binary32, fits}
-use Rattle.laws.proofs.All.{All}
+use Rattle.labels.specs.Lists.{All}
 use Rattle.laws.proofs.Numbers.{be-bytes, float-floatBytes}
 use Rattle.laws.proofs.AnswerLength.{length-glyphRow, length-run, length-clusterRow, length-spanRow}
 use Rattle.labels.specs.Bytes.{be, bytes, float, floatBytes, rows, sizes}

@@ -10,7 +10,8 @@ use lib.ListN.{length, getD, length-append, length-map, length-take, length-drop
 use lib.Dec.{eqb, ltb, ltb→lt, lit≤}
 use lib.Ieee.{Float, binary32}
 use lib.Ieee.Fits.{add-fits, ofInt-fits, and-l}
-use Rattle.laws.proofs.All.{All, all-append, all-take, all-drop, all-map, all-every, all-weaken, both, cond-keeps, first, rest}
+use Rattle.laws.proofs.All.{all-append, all-take, all-drop, all-map, all-every, all-weaken, both, cond-keeps, first, rest}
+use Rattle.labels.specs.Lists.{All}
 use Rattle.laws.proofs.Few.{Few, few-map}
 use Rattle.laws.proofs.IfGiven.{IfGiven, if-given, of-given, given-then}
 use Rattle.laws.proofs.Accepted.{RangedChunk, RangedJob, floats-in-range}

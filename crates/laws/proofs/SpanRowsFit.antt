@@ -7,7 +7,8 @@ use lib.ListN.{length, length-append}
 use lib.Dec.{eqb}
 use lib.Ieee.{Float, binary32}
 use lib.Ieee.Fits.{add-fits, sub-fits, mul-fits, div-fits, neg-fits}
-use Rattle.laws.proofs.All.{All, all-append, cond-keeps}
+use Rattle.laws.proofs.All.{all-append, cond-keeps}
+use Rattle.labels.specs.Lists.{All}
 use Rattle.laws.proofs.Few.{Few}
 use Rattle.laws.proofs.ReadBack.{Fits, FitRun, FitSpanRow}
 use Rattle.laws.proofs.FitCluster.{FitCluster, FitClusters, zero-fits}

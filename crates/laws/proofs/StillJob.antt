@@ -6,16 +6,16 @@ use mathlib.Core.Bool.{Bool, true, false}
 use mathlib.Core.List.{List, [], _∷_, map}
 use lib.Dec.{eqb}
 use lib.Ieee.{Float, add, neg, eq, ne, ofBits}
-use Rattle.laws.proofs.All.{All, all-map, all-weaken, fold-keeps, cond-keeps}
-use Rattle.laws.proofs.Unmoved.{ShiftedBy, Unmoved}
-use Rattle.labels.specs.Lists.{modify, scan}
+use Rattle.laws.proofs.All.{all-map, all-weaken, fold-keeps, cond-keeps}
+use Rattle.laws.specs.Unmoved.{ShiftedBy, Unmoved}
+use Rattle.labels.specs.Lists.{modify, scan, All}
 use Rattle.labels.specs.Single.{_+ᶠ_, +0, isZero}
 use Rattle.labels.specs.Job.{Job, Chunk, topToBottom}
 use Rattle.labels.specs.Kind.{indexes}
-use Rattle.labels.specs.Position.{Entry, Shifting, logicalOrder, shiftNext, resolveRelativeShifts, turnShift, turnShifts, positioned}
+use Rattle.labels.specs.Position.{Entry, Shifting, logicalOrder, shiftNext, resolveRelativeShifts, turnShift, turnShifts, positioned, marked, markedBy, markRelativeShifts}
 use Rattle.labels.specs.ClusterParts.{withMarks}
 use Rattle.labels.specs.declared.Cluster.{Cluster}
-use Rattle.labels.specs.Cluster.{rounded, marked, markRelativeShifts}
+use Rattle.labels.specs.Cluster.{rounded}
 use Rattle.labels.specs.Layout.{resolveClustersPositionsHorizontal}
 
 -- ---- zeros
@@ -71,7 +71,7 @@ module _ (job : Job) (text : List ℕ) (offset : ℕ) where
 
   module _ (x y : Float) (ex : ne x x ≡ false) (ey : ne y y ≡ false) (er : job .rotate ≡ []) where
     mark-none : (before c : Cluster) → ShiftedBy x y before → ShiftedBy x y c → marked job text offset before c ≡ c
-    unfolding marked
+    unfolding marked markedBy
     mark-none before c b h =
         let same-x : ne (c .x) (before .x) ≡ false = rw (h .0, b .0) ex in
         let same-y : ne (c .y) (before .y) ≡ false = rw (h .1, b .1) ey in

@@ -6,10 +6,11 @@ use mathlib.Core.List.{List, [], _∷_, map, foldl}
 use lib.ListN.{length}
 use lib.Dec.{eqb}
 use lib.Ieee.{Float, lt}
-use Rattle.laws.proofs.All.{All, all-map, all-scan, all-modify, fold-keeps, cond-keeps}
+use Rattle.laws.specs.Unmoved.{ShiftedBy, Unmoved}
+use Rattle.laws.proofs.All.{all-map, all-scan, all-modify, fold-keeps, cond-keeps}
 use Rattle.laws.proofs.IfGiven.{IfGiven, of-given}
 use Rattle.labels.specs.Outcome.{Outcome, refused, given}
-use Rattle.labels.specs.Lists.{any, all, atOr, modify}
+use Rattle.labels.specs.Lists.{any, all, atOr, modify, All}
 use Rattle.labels.specs.Single.{+0, isZero, thousandth}
 use Rattle.labels.specs.declared.Font.{Font}
 use Rattle.labels.specs.declared.Span.{Span}
@@ -17,19 +18,14 @@ use Rattle.labels.specs.declared.Glyph.{Glyph}
 use Rattle.labels.specs.Job.{Job, Chunk, spansOf, hasLength, adjustSpacingAndGlyphs, topToBottom}
 use Rattle.labels.specs.Group.{Group, groups}
 use Rattle.labels.specs.Script.{scriptSupportsLetterSpacing, isWordSeparatorAt}
-use Rattle.labels.specs.Spacing.{settled, letterSpaced, nextLetterSpaced, applyLetterSpacing, wordSpaced, applyWordSpacing}
-use Rattle.labels.specs.LengthAdjust.{clusterIndexes, adjustSpacingOf}
+use Rattle.labels.specs.LetterSpacing.{settled, letterSpaced, nextLetterSpaced, applyLetterSpacing}
+use Rattle.labels.specs.WordSpacing.{wordSpaced, applyWordSpacing}
+use Rattle.labels.specs.LengthAdjust.{clusterIndexes, adjustSpacingOf, widthOf, scaledBy, adjustGlyphsOf, adjustSpan, applyLengthAdjust}
 use Rattle.labels.specs.ClusterParts.{withScale}
 use Rattle.labels.specs.declared.Cluster.{Cluster}
-use Rattle.labels.specs.Cluster.{rounded, formGlyphClusters, turned, applyWritingMode, widthOf, scaledBy, adjustGlyphsOf, adjustSpan, applyLengthAdjust}
+use Rattle.labels.specs.Cluster.{rounded, formGlyphClusters}
+use Rattle.labels.specs.WritingMode.{turned, applyWritingMode}
 use Rattle.labels.specs.Layout.{collapsedClusters, adjustedClusters}
-
--- shifted by x and y, and neither rotated nor marked. A product and no record, so that it says the same of a cluster with other parts set anew
-abbrev pub ShiftedBy : Float → Float → Cluster → Type 0
-ShiftedBy x y c = (c .x ≡ x) × (c .y ≡ y) × (c .angle ≡ +0) × (c .relative ≡ false) × (c .rotated ≡ false)
-
-abbrev pub Unmoved : Cluster → Type 0
-Unmoved = ShiftedBy +0 +0
 
 -- ---- step 2
 

@@ -18,7 +18,7 @@ use Rattle.labels.specs.Merge.{mergeGlyphs}
 use Rattle.labels.specs.declared.Glyph.{Glyph}
 use Rattle.labels.specs.declared.Cluster.{Cluster}
 use Rattle.labels.specs.Check.{checked}
-use Rattle.labels.specs.Layout.{LaidChunk, Progress, beginning, rowsOf, adjustedClusters, placeChunk, layoutChunk, layoutJob, layoutRows, fitting, layoutOf, Answers}
+use Rattle.labels.specs.Layout.{LaidChunk, Progress, beginning, rowsOf, adjustedClusters, placeChunk, layoutChunk, layoutJob, layoutRows, fitting, layoutOf, numberOf, lengthOf, bufferAfter}
 use Rattle.wire.specs.Splice.{splice}
 use Rattle.job_rows.specs.Rows.{jobAt}
 use Rattle.chunk.specs.Steps.{laidBytes, putFrom}
@@ -99,6 +99,12 @@ head-put old head rest h =
     ∙ ap (λ (k : ℕ). (head ++ rest) ++ drop k old) n
 
 -- ---- the three ways to answer
+
+-- the number and the length that are returned, and the bytes `new` of a buffer that held `old`, are those of an outcome
+pub record Answers (o : Outcome (List ℕ)) (old : List ℕ) (returned size : ℕ) (new : List ℕ) : Type 0 where
+  pub number : returned ≡ numberOf o
+  pub written : size ≡ lengthOf o
+  pub buffer : new ≡ bufferAfter o old
 
 module _ (o : Outcome Progress) (old : List ℕ) where
   abbrev room : ℕ

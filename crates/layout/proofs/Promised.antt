@@ -4,20 +4,19 @@ use mathlib.Core.Path.{_≡_, refl, sym, ap, subst, _∙_}
 use mathlib.Core.List.{List, [], _∷_}
 use native.Mathlib.Omega.{arith}
 use lib.ListN.{length, getD}
-use Rattle.laws.proofs.All.{All}
+use Rattle.labels.specs.Lists.{All}
 use Rattle.laws.proofs.Counted.{IsByte}
 use Rattle.laws.proofs.NeverTooShort.{never-too-short, always-enough, length-bound, length-small}
 use Rattle.exact.proofs.Answer.{near-answer}
 use Rattle.labels.specs.Outcome.{Outcome, refused, given}
 use Rattle.labels.specs.declared.Job.{Job}
 use Rattle.labels.specs.Check.{checked}
-use Rattle.labels.specs.Layout as definitions
-use Rattle.labels.specs.Layout.{layoutOf, bufferAfter, Answers}
+use Rattle.labels.specs.Layout.{layoutOf, numberOf, lengthOf, bufferAfter}
 use Rattle.labels.specs.Exact.{NearAnswer}
 use Rattle.job_rows.specs.Rows.{jobAt}
 use Rattle.layout.specs.Steps.{jobLaid, answered}
 use Rattle.layout.specs.Called.{LaidOut}
-use Rattle.layout.proofs.Answering.{call-given, call-refused}
+use Rattle.layout.proofs.Answering.{Answers, call-given, call-refused}
 
 -- bytes, each known by its place
 pub bytes-of : (xs : List ℕ) → ((i : ℕ) → getD xs i 0 < 256) → All IsByte xs
@@ -25,11 +24,11 @@ bytes-of [] h = All.none
 bytes-of (x ∷ xs) h = All.more (h 0) (bytes-of xs (λ i. h (suc i)))
 
 module _ (s old : List ℕ) where
-  pub promised-given : (job : Job) {told long : ℕ} {new : List ℕ} → All IsByte s → checked s ≡ given (jobAt s job) → Answers (answered (jobLaid s job) (length old)) old told long new → LaidOut s old told long new
-  promised-given job {told} {long} {new} bs e a =
+  pub promised-given : (job : Job) {returned size : ℕ} {new : List ℕ} → All IsByte s → checked s ≡ given (jobAt s job) → Answers (answered (jobLaid s job) (length old)) old returned size new → LaidOut s old returned size new
+  promised-given job {returned} {size} {new} bs e a =
       let is : answered (jobLaid s job) (length old) ≡ layoutOf s (length old) = sym (call-given s (length old) job e) in
-      let number : told ≡ definitions.numberOf (layoutOf s (length old)) = a .number ∙ ap definitions.numberOf is in
-      let written : long ≡ definitions.lengthOf (layoutOf s (length old)) = a .written ∙ ap definitions.lengthOf is in
+      let number : returned ≡ numberOf (layoutOf s (length old)) = a .number ∙ ap numberOf is in
+      let written : size ≡ lengthOf (layoutOf s (length old)) = a .written ∙ ap lengthOf is in
       let buffer : new ≡ bufferAfter (layoutOf s (length old)) old = a .buffer ∙ ap (λ (o : Outcome (List ℕ)). bufferAfter o old) is in
       record {
         number = number;

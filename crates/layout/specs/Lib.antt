@@ -1,3 +1,4 @@
 pub mod Checked
 pub mod Steps
+pub mod Returned
 pub mod Called

@@ -8,7 +8,8 @@ use chunk::progress::Laid;
 use chunks::count_of;
 use job::check::Checked;
 use job::check::check;
-ghost use Rattle.layout.specs.Called.{numberOf, lengthOf, LaidOut};
+ghost use Rattle.layout.specs.Returned.{returnedNumber, returnedLength};
+ghost use Rattle.layout.specs.Called.{LaidOut};
 
 // The answer's whole length, or the number that the job is refused with.
 pub enum Answered {
@@ -22,7 +23,7 @@ pub const TOO_LONG: u8 = 10;
 // The whole call. What it promises, of any bytes and any buffer, is in specs/Called: the number, the length, the buffer's bytes, how
 // much to lend, and demand 3. The answer's head comes last.
 pub fn layout_text(job: &[u8], answer: &mut [u8]) -> Answered
-    ensures { λ r. ⌜ LaidOut (now (job .entry)) (now (answer .entry)) (numberOf r) (lengthOf r) (now (answer .exit)) ⌝ }
+    ensures { λ r. ⌜ LaidOut (now (job .entry)) (now (answer .entry)) (returnedNumber r) (returnedLength r) (now (answer .exit)) ⌝ }
 {
     match check(job) {
         Checked::Refused(number) => Answered::Refused(number),

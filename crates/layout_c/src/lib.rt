@@ -4,7 +4,8 @@ pub mod column;
 use layout::Answered;
 ghost use mathlib.Core.Path.{_≡_};
 ghost use Prim.Native.Nat.{_<_};
-ghost use Rattle.layout.specs.Called.{numberOf, lengthOf, LaidOut};
+ghost use Rattle.layout.specs.Returned.{returnedNumber, returnedLength};
+ghost use Rattle.layout.specs.Called.{LaidOut};
 
 #[repr(C)]
 pub struct LayoutResult {
@@ -13,8 +14,8 @@ pub struct LayoutResult {
 }
 
 fn result_of(answered: Answered) -> LayoutResult
-    requires { ⌜ lengthOf answered < 4_294_967_296 ⌝ }
-    ensures { λ r. ⌜ (r .number ≡ numberOf answered) × (r .length ≡ lengthOf answered) ⌝ }
+    requires { ⌜ returnedLength answered < 4_294_967_296 ⌝ }
+    ensures { λ r. ⌜ (r .number ≡ returnedNumber answered) × (r .length ≡ returnedLength answered) ⌝ }
 {
     match answered {
         Answered::Written(n) => LayoutResult {

@@ -8,12 +8,12 @@ use mathlib.Core.List.{List, [], _∷_, map}
 use native.Mathlib.Omega.{arith}
 use lib.ListN.{length, take, drop}
 use borrow.Author.Tests.{le-leb, lt-leb, lt-ltb, le-ltb}
-use Rattle.labels.specs.Lists.{any, findIdx}
+use Rattle.labels.specs.Lists.{any, findIdx, All}
 use Rattle.labels.specs.declared.Span.{Span}
 use Rattle.labels.specs.Merge.{spanContains}
 use Rattle.labels.specs.Position.{entries, logicalOrder}
 use Rattle.labels.specs.Looked.{highest, bytesLooked}
-use Rattle.laws.proofs.All.{All, first, rest, all-weaken}
+use Rattle.laws.proofs.All.{first, rest, all-weaken}
 use Rattle.sorting.specs.Sorted.{insertKey, sorted}
 use Rattle.text_order.specs.Keys.{keyOf, keysOf}
 use Rattle.sorting.proofs.Cases.{in-order}

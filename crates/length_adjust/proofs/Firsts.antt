@@ -8,9 +8,9 @@ use native.Mathlib.Omega.{arith}
 use lib.ListN.{length, drop}
 use lib.Dec.{eqb}
 use borrow.Author.Tests.{eq-eqb, ne-eqb, le-leb, lt-leb}
-use Rattle.labels.specs.Lists.{findIdx}
+use Rattle.labels.specs.Lists.{findIdx, All}
 use Rattle.labels.specs.Position.{entries}
-use Rattle.laws.proofs.All.{All, all-weaken}
+use Rattle.laws.proofs.All.{all-weaken}
 use Rattle.sorting.specs.Sorted.{insertKey, sorted}
 use Rattle.text_order.specs.Keys.{keyOf, keysOf}
 use Rattle.sorting.proofs.Cases.{in-order}

@@ -14,9 +14,9 @@ use Rattle.labels.specs.Single.{+0, isZero, thousandth, _/ᶠ_}
 use Rattle.labels.specs.declared.Span.{Span}
 use Rattle.labels.specs.declared.Cluster.{Cluster}
 use Rattle.labels.specs.Job.{blankSpan, spanAt, hasLength, adjustSpacingAndGlyphs}
-use Rattle.labels.specs.LengthAdjust.{clusterIndexes, sumAt, spacingFactor, takenOf, stretchedBy, adjustSpacingOf}
+use Rattle.labels.specs.LengthAdjust.{clusterIndexes, sumAt, spacingFactor, takenOf, stretchedBy, adjustSpacingOf, widthOf, scaledBy, adjustGlyphsOf, adjustSpan, applyLengthAdjust}
 use Rattle.labels.specs.ClusterParts.{withScale}
-use Rattle.labels.specs.Cluster.{rounded, widthOf, scaledBy, adjustGlyphsOf, adjustSpan, applyLengthAdjust}
+use Rattle.labels.specs.Cluster.{rounded}
 use Rattle.labels.specs.Looked.{spanLooked, spansLooked}
 use Rattle.laws.proofs.All.{fold-keeps, cond-keeps}
 use Rattle.laws.proofs.IfGiven.{IfGiven, of-given}

@@ -7,7 +7,8 @@ use native.Mathlib.Omega.{arith}
 use lib.ListN.{length, set, take, drop, replicate, length-set, length-drop, length-replicate}
 use lib.Dec.{eqb}
 use lib.Seq.{set-out, take-set-le, drop-set-lt, take-set-lt, drop-set-add, take-suc-set, drop-drop}
-use Rattle.laws.proofs.All.{All, both, cond-keeps, all-take, all-drop}
+use Rattle.laws.proofs.All.{both, cond-keeps, all-take, all-drop}
+use Rattle.labels.specs.Lists.{All}
 use Rattle.labels.specs.declared.Span.{Span}
 use Rattle.sorting.proofs.Cases.{in-order}
 use Rattle.sorting.proofs.Ascending.{Ascends}

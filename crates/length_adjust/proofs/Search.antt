@@ -7,9 +7,9 @@ use native.Mathlib.Omega.{arith}
 use lib.ListN.{length, getD, set, take, drop, length-set}
 use lib.Seq.{drop-cons, drop-drop, set-out}
 use borrow.Author.Tests.{ne-eqb}
-use Rattle.labels.specs.Lists.{findIdx}
+use Rattle.labels.specs.Lists.{findIdx, All}
 use Rattle.labels.specs.declared.Span.{Span}
-use Rattle.laws.proofs.All.{All, first, all-weaken}
+use Rattle.laws.proofs.All.{first, all-weaken}
 use Rattle.sorting.proofs.Cases.{in-order}
 use Rattle.sorting.proofs.Ascending.{Ascends, drop-ascends}
 use Rattle.length_adjust.specs.Marks.{mark, below, placeFor, found, ownKeys, bytesTo}

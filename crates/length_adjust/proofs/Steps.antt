@@ -12,9 +12,9 @@ use Rattle.labels.specs.Lists.{modify, all, atOr}
 use Rattle.labels.specs.Single.{+0, _/ᶠ_, isZero, thousandth}
 use Rattle.labels.specs.declared.Span.{Span}
 use Rattle.labels.specs.declared.Cluster.{Cluster}
-use Rattle.labels.specs.LengthAdjust.{clusterIndexes, sumAt, spacingFactor, takenOf, stretchedBy, adjustSpacingOf}
+use Rattle.labels.specs.LengthAdjust.{clusterIndexes, sumAt, spacingFactor, takenOf, stretchedBy, adjustSpacingOf, widthOf, scaledBy, adjustGlyphsOf, adjustSpan}
 use Rattle.labels.specs.ClusterParts.{withScale}
-use Rattle.labels.specs.Cluster.{rounded, widthOf, scaledBy, adjustGlyphsOf, adjustSpan}
+use Rattle.labels.specs.Cluster.{rounded}
 use Rattle.labels.specs.Kind.{indexes}
 use Rattle.labels.specs.Looked.{bytesLooked, spanLooked}
 use Rattle.length_adjust.specs.Sums.{takenAt}

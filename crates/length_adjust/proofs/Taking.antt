@@ -9,12 +9,12 @@ use lib.ListN.{length, set, replicate}
 use lib.Seq.{take-all}
 use lib.Dec.{eqb, leb, ltb}
 use borrow.Author.Tests.{eq-eqb, ne-eqb, lt-ltb, le-ltb, le-leb, lt-leb}
-use Rattle.labels.specs.Lists.{all, any, among, findIdx}
+use Rattle.labels.specs.Lists.{all, any, among, findIdx, All}
 use Rattle.labels.specs.declared.Span.{Span}
 use Rattle.labels.specs.Position.{entries, logicalOrder}
 use Rattle.labels.specs.LengthAdjust.{placesFrom}
 use Rattle.labels.specs.Looked.{bytesLooked}
-use Rattle.laws.proofs.All.{All, all-weaken, all-true}
+use Rattle.laws.proofs.All.{all-weaken, all-true}
 use Rattle.clusters.specs.Clusters.{indexesIn}
 use Rattle.sorting.specs.Sorted.{ascending}
 use Rattle.text_order.specs.Keys.{keyOf, keysOf}

@@ -8,7 +8,7 @@ use labels::Span;
 ghost use mathlib.Core.Path.{_≡_};
 ghost use lib.ListN.{length};
 ghost use Rattle.labels.specs.Job.{adjustSpacingAndGlyphs};
-ghost use Rattle.labels.specs.Cluster.{adjustGlyphsOf};
+ghost use Rattle.labels.specs.LengthAdjust.{adjustGlyphsOf};
 ghost use Rattle.clusters.specs.Clusters.{clustersOf};
 ghost use Rattle.length_adjust.specs.Given.{Walkable};
 ghost use Rattle.length_adjust.specs.Marks.{markedIn};

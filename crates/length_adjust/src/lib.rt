@@ -15,7 +15,7 @@ ghost use mathlib.Core.Path.{_≡_};
 ghost use Prim.Native.Nat.{_<_};
 ghost use lib.ListN.{length};
 ghost use Rattle.labels.specs.Outcome.{given};
-ghost use Rattle.labels.specs.Cluster.{adjustSpan, applyLengthAdjust};
+ghost use Rattle.labels.specs.LengthAdjust.{adjustSpan, applyLengthAdjust};
 ghost use Rattle.labels.specs.Looked.{spanLooked, spansLooked};
 ghost use Rattle.clusters.specs.Clusters.{clustersOf};
 ghost use Rattle.job_rows.specs.Rows.{spansIn};

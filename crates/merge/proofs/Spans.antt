@@ -13,7 +13,8 @@ use Rattle.labels.specs.declared.Glyph.{Glyph}
 use Rattle.labels.specs.Job.{SpanParts, limits}
 use Rattle.labels.specs.Decode.{glyphOf, glyphBytes, glyphsAt, glyphCount, spanOf, partsOf}
 use Rattle.labels.specs.Merge.{merging, mergeGlyph, mergeDone, mergeSpan, mergeGlyphs}
-use Rattle.laws.proofs.All.{All, first, rest}
+use Rattle.laws.proofs.All.{first, rest}
+use Rattle.labels.specs.Lists.{All}
 use Rattle.laws.proofs.Records.{length-rows}
 use Rattle.job_rows.specs.Rows.{partsIn}
 use Rattle.job_rows.specs.Rows as lookup

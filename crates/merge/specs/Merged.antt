@@ -3,7 +3,7 @@ use Prim.Native.Nat.{ℕ, _≤_, _<_}
 use mathlib.Core.Path.{_≡_}
 use mathlib.Core.List.{List, [], foldl}
 use lib.ListN.{length, drop}
-use Rattle.laws.proofs.All.{All}
+use Rattle.labels.specs.Lists.{All}
 use Rattle.job_rows.specs.Rows.{partsIn}
 unfoldable pub use Rattle.job_rows.specs.Rows.{glyphsIn}
 use Rattle.labels.specs.Outcome.{Outcome, refused, given}

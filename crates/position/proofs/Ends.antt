@@ -6,14 +6,14 @@ use mathlib.Core.Path.{_≡_, sym, ap, _∙_}
 use mathlib.Core.List.{List, [], foldl}
 use lib.ListN.{length, getD}
 use lib.Ieee.{Float}
-use Rattle.laws.proofs.All.{All, all-weaken}
-use Rattle.laws.proofs.Unmoved.{ShiftedBy}
+use Rattle.laws.proofs.All.{all-weaken}
+use Rattle.laws.specs.Unmoved.{ShiftedBy}
 use Rattle.labels.specs.declared.Cluster.{Cluster}
-use Rattle.labels.specs.Lists.{atOr}
+use Rattle.labels.specs.Lists.{atOr, All}
 use Rattle.labels.specs.Single.{_+ᶠ_, _-ᶠ_, +0}
 use Rattle.labels.specs.Kind.{indexes}
-use Rattle.labels.specs.Position.{Entry, logicalOrder, firstPlace, lastPlace, extentOf, processAnchor, pastAdvance, placedFrom, positioned, resolveRelativeShifts, turnShifts}
-use Rattle.labels.specs.Cluster.{rounded, markRelativeShifts}
+use Rattle.labels.specs.Position.{Entry, logicalOrder, firstPlace, lastPlace, extentOf, processAnchor, pastAdvance, placedFrom, positioned, resolveRelativeShifts, turnShifts, markRelativeShifts}
+use Rattle.labels.specs.Cluster.{rounded}
 use Rattle.labels.specs.Layout.{resolveClustersPositionsHorizontal}
 use Rattle.labels.specs.Job.{Job, Chunk}
 use Rattle.clusters.specs.Clusters.{clusterOf, clustersOf, indexesIn}

@@ -2,7 +2,7 @@
 use Prim.Native.Nat.{ℕ, _≤_, _<_}
 use native.Mathlib.Nat.{not-suc-le-zero}
 use native.Mathlib.Omega.{arith}
-use mathlib.Core.Path.{_≡_, sym, ap, _∙_}
+use mathlib.Core.Path.{_≡_, refl, sym, ap, _∙_}
 use mathlib.Core.Bool.{Bool, true, false, not, _||_, or-true, or-false}
 use mathlib.Core.List.{List, [], _∷_, map}
 use lib.ListN.{length, getD, set, take, length-take}
@@ -13,9 +13,8 @@ use Rattle.labels.specs.declared.Cluster.{Cluster}
 use Rattle.labels.specs.Lists.{scan}
 use Rattle.labels.specs.Single.{+0, isZero}
 use Rattle.labels.specs.Job.{Job}
-use Rattle.labels.specs.Position.{characterNumber}
+use Rattle.labels.specs.Position.{characterNumber, markedBy, marked, markRelativeShifts}
 use Rattle.labels.specs.ClusterParts.{withMarks}
-use Rattle.labels.specs.Cluster.{marked, markRelativeShifts}
 use Rattle.clusters.specs.Clusters.{clusterOf, clustersOf, indexesIn}
 use Rattle.clusters.proofs.Rows.{clusters-length, clusters-at}
 use Rattle.clusters.proofs.Turns.{stored}
@@ -28,14 +27,22 @@ not-zero : (a : Float) (b : Bool) → ne a +0 ≡ b → not (isZero a) ≡ b
 unfolding ne
 not-zero a b e = e
 
-module _ (job : Job) (text : List ℕ) (offset : ℕ) (before c : Cluster) (angle : Float) (e : getD (job .rotate) (characterNumber text offset (c .index)) +0 ≡ angle) where
-  pub mark-rotated : ne angle +0 ≡ true → withMarks true true angle c ≡ marked job text offset before c
-  unfolding marked
-  mark-rotated r = rw (e, not-zero angle true r, or-true)
+module _ (angle : Float) (before c : Cluster) where
+  pub mark-rotated : ne angle +0 ≡ true → withMarks true true angle c ≡ markedBy angle before c
+  unfolding markedBy
+  mark-rotated r = rw (not-zero angle true r, or-true)
 
-  pub mark-straight : ne angle +0 ≡ false → withMarks (ne (c .x) (before .x) || ne (c .y) (before .y)) false +0 c ≡ marked job text offset before c
+  pub mark-straight : ne angle +0 ≡ false → withMarks (ne (c .x) (before .x) || ne (c .y) (before .y)) false +0 c ≡ markedBy angle before c
+  unfolding markedBy
+  mark-straight r = rw (not-zero angle false r, or-false)
+
+  pub marked-index : markedBy angle before c .index ≡ c .index
+  unfolding markedBy
+  marked-index = refl
+
+  pub marked-by : (job : Job) (text : List ℕ) (offset : ℕ) → getD (job .rotate) (characterNumber text offset (c .index)) +0 ≡ angle → markedBy angle before c ≡ marked job text offset before c
   unfolding marked
-  mark-straight r = rw (e, not-zero angle false r, or-false)
+  marked-by job text offset e = rw e
 
 -- ---- the byte indexes stay
 

@@ -7,7 +7,8 @@ use mathlib.Core.List.{List, [], _∷_, _++_, foldl}
 use lib.ListN.{length, getD, take, drop, length-append, length-map, take-append-drop, drop-of-length-le}
 use lib.Seq.{append-snoc, drop-cons, getD-at, getD-take, length-take-le}
 use lib.Dec.{leb}
-use Rattle.laws.proofs.All.{All, first, all-drop, all-weaken, cond-keeps}
+use Rattle.laws.proofs.All.{first, all-drop, all-weaken, cond-keeps}
+use Rattle.labels.specs.Lists.{All}
 use Rattle.job_rows.proofs.ByNumber.{map-in}
 use Rattle.labels.specs.Position.{Entry, entries, insert, logicalOrder, firstPlace, lastPlace, characterNumber}
 use Rattle.clusters.specs.Clusters.{indexesIn}

@@ -10,13 +10,10 @@ ghost use mathlib.Core.Path.{_≡_};
 ghost use mathlib.Core.Bool.{_||_};
 ghost use mathlib.Core.List.{List};
 ghost use Prim.Native.Nat.{ℕ, _≤_};
-ghost use lib.ListN.{length, getD};
+ghost use lib.ListN.{length};
 ghost use lib.Ieee.{ne};
-ghost use Rattle.labels.specs.Single.{+0};
-ghost use Rattle.labels.specs.Job as definitions;
-ghost use Rattle.labels.specs.Position.{characterNumber};
+ghost use Rattle.labels.specs.Position.{markedBy, markRelativeShifts};
 ghost use Rattle.labels.specs.ClusterParts.{withMarks};
-ghost use Rattle.labels.specs.Cluster.{marked, markRelativeShifts};
 ghost use Rattle.clusters.specs.Clusters.{clustersOf, indexesIn};
 ghost use Rattle.job_rows.specs.Rows.{jobAt};
 ghost use Rattle.position.specs.Given.{Numbered, Placeable};
@@ -42,8 +39,7 @@ fn shifts_differ(c: Cluster, before: Cluster) -> bool
 
 // A cluster that is rotated has a relative shift too.
 fn mark(c: Cluster, before: Cluster, angle: f32) -> Cluster
-    ensures { λ r. ⌜ (r .index ≡ c .index)
-        × ((job : definitions.Job) (text : List ℕ) (offset : ℕ) → getD (job .rotate) (characterNumber text offset (c .index)) +0 ≡ angle → r ≡ marked job text offset before c) ⌝ }
+    ensures { λ r. ⌜ r ≡ markedBy angle before c ⌝ }
 {
     let moved = shifts_differ(c, before);
     if angle != 0.0 {

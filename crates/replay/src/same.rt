@@ -5,12 +5,12 @@ ghost use mathlib.Core.Path.{_≡_};
 ghost use mathlib.Core.Bool.{_&&_};
 ghost use lib.Dec.{eqb};
 ghost use Rattle.labels.specs.Lists.{all};
-ghost use Rattle.layout.specs.Called.{numberOf, lengthOf};
+ghost use Rattle.layout.specs.Returned.{returnedNumber, returnedLength};
 ghost use Rattle.replay.specs.Same.{same};
 
 // Whether the call gave this number and this length.
 pub fn same_outcome(answered: Answered, number: u8, length: usize) -> bool
-    ensures { λ r. ⌜ r ≡ eqb (numberOf answered) number && eqb (lengthOf answered) length ⌝ }
+    ensures { λ r. ⌜ r ≡ eqb (returnedNumber answered) number && eqb (returnedLength answered) length ⌝ }
 {
     match answered {
         Answered::Written(n) => (0 == number) & (n == length),

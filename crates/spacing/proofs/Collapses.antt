@@ -12,7 +12,7 @@ use Rattle.labels.specs.Single.{_+ᶠ_, isPositive}
 use Rattle.labels.specs.Job.{spanAt}
 use Rattle.labels.specs.Script.{scriptSupportsLetterSpacing}
 use Rattle.labels.specs.Cluster.{rounded}
-use Rattle.labels.specs.Spacing.{settled, letterSpaced, nextLetterSpaced}
+use Rattle.labels.specs.LetterSpacing.{settled, letterSpaced, nextLetterSpaced}
 use Rattle.laws.proofs.All.{cond-keeps}
 use Rattle.clusters.specs.Clusters.{clusterOf, floatsOf, wordsOf}
 use Rattle.clusters.proofs.Rows.{line-back}

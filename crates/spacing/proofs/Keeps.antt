@@ -15,8 +15,10 @@ use Rattle.labels.specs.Job.{spanAt, topToBottom}
 use Rattle.labels.specs.Script.{scriptSupportsLetterSpacing, isWordSeparatorAt}
 use Rattle.labels.specs.Kind.{Kind, indexes}
 use Rattle.labels.specs.ClusterParts.{withHeight, collapsed}
-use Rattle.labels.specs.Cluster.{rounded, turned, applyWritingMode}
-use Rattle.labels.specs.Spacing.{settled, letterSpaced, nextLetterSpaced, applyLetterSpacing, wordSpaced, applyWordSpacing}
+use Rattle.labels.specs.Cluster.{rounded}
+use Rattle.labels.specs.WritingMode.{turned, applyWritingMode}
+use Rattle.labels.specs.LetterSpacing.{settled, letterSpaced, nextLetterSpaced, applyLetterSpacing}
+use Rattle.labels.specs.WordSpacing.{wordSpaced, applyWordSpacing}
 use Rattle.laws.proofs.All.{cond-keeps}
 use Rattle.laws.proofs.AsMany.{length-cond}
 use Rattle.clusters.specs.Clusters.{clusterOf, floatsOf}

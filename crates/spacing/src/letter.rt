@@ -16,7 +16,7 @@ ghost use lib.ListN.{length, set};
 ghost use Rattle.labels.specs.declared.Span.{Span};
 ghost use Rattle.labels.specs.Job.{spanAt};
 ghost use Rattle.labels.specs.Cluster.{rounded};
-ghost use Rattle.labels.specs.Spacing.{settled, letterSpaced, nextLetterSpaced, applyLetterSpacing};
+ghost use Rattle.labels.specs.LetterSpacing.{settled, letterSpaced, nextLetterSpaced, applyLetterSpacing};
 ghost use Rattle.job_rows.specs.Rows.{spansIn};
 ghost use Rattle.clusters.specs.Clusters.{floatsOf, wordsOf, clustersOf};
 

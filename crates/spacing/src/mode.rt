@@ -6,7 +6,7 @@ use labels::Job;
 ghost use mathlib.Core.Path.{_≡_};
 ghost use Prim.Native.Nat.{_≤_};
 ghost use lib.ListN.{length};
-ghost use Rattle.labels.specs.Cluster.{turned, applyWritingMode};
+ghost use Rattle.labels.specs.WritingMode.{turned, applyWritingMode};
 ghost use Rattle.clusters.specs.Clusters.{clustersOf};
 
 // The cluster moved to the middle of the line. Of an upright one ascent and descent become plus and minus half the width.

@@ -11,7 +11,7 @@ ghost use mathlib.Core.Path.{_≡_};
 ghost use Prim.Native.Nat.{_≤_};
 ghost use lib.ListN.{length};
 ghost use Rattle.labels.specs.Cluster.{rounded};
-ghost use Rattle.labels.specs.Spacing.{wordSpaced, applyWordSpacing};
+ghost use Rattle.labels.specs.WordSpacing.{wordSpaced, applyWordSpacing};
 ghost use Rattle.job_rows.specs.Rows.{spansIn};
 ghost use Rattle.clusters.specs.Clusters.{clustersOf};
 

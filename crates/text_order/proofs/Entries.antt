@@ -7,7 +7,8 @@ use native.Mathlib.Omega.{arith}
 use lib.ListN.{length, getD, length-append}
 use lib.Seq.{append-snoc, getD-append-seam}
 use borrow.Author.Tests.{le-leb, lt-leb}
-use Rattle.laws.proofs.All.{All, all-weaken}
+use Rattle.laws.proofs.All.{all-weaken}
+use Rattle.labels.specs.Lists.{All}
 use Rattle.labels.specs.Position.{Entry, entries, insert, logicalOrder}
 use Rattle.sorting.proofs.Cases.{in-order}
 

@@ -7,7 +7,7 @@ use native.Mathlib.Numerals.{add-one}
 use native.Mathlib.Omega.{arith}
 use lib.ListN.{length, getD, take, set}
 use lib.Seq.{getD-take, getD-set-same, getD-set-other, length-take-le, take-all, ext-getD}
-use Rattle.laws.proofs.All.{All}
+use Rattle.labels.specs.Lists.{All}
 use Rattle.labels.specs.Position.{logicalOrder}
 use Rattle.clusters.specs.Clusters.{indexesIn}
 use Rattle.sorting.specs.Sorted.{sorted}

@@ -4,7 +4,7 @@ use mathlib.Core.Path.{_≡_, refl, sym, ap, _∙_}
 use mathlib.Core.List.{List, [], _∷_, map, foldl}
 use native.Mathlib.Omega.{arith}
 use lib.ListN.{length, getD, length-map}
-use Rattle.laws.proofs.All.{All}
+use Rattle.labels.specs.Lists.{All}
 use Rattle.labels.specs.Position.{Entry, entries, insert, logicalOrder}
 use Rattle.sorting.specs.Sorted.{insertKey, sorted}
 use Rattle.text_order.specs.Keys.{keyOf, keysOf}

@@ -7,7 +7,7 @@ use lib.ListN.{length}
 use Rattle.labels.specs.Outcome.{Outcome, given}
 use Rattle.labels.specs.Answer.{answerHeadSize}
 use Rattle.labels.specs.declared.Job.{Job}
-use Rattle.labels.specs.Layout.{Progress, Answers}
+use Rattle.labels.specs.Layout.{Progress}
 use Rattle.job.specs.Answer.{answerOf}
 use Rattle.job.specs.declared.check.Checked.the-variants as C
 use Rattle.job.proofs.Answers.{refusal-where-refused}
@@ -21,7 +21,7 @@ use Rattle.layout.proofs.Promised.{bytes-of, promised-given, promised-r
 use Rattle.layout.proofs.Single.{count-of-chunks}
 use Rattle.layout.proofs.Outcomes.{refused-of, given-of}
 use Rattle.layout.proofs.Copied.{answerLength, end-length}
-use Rattle.layout.proofs.Answering.{rows-many, answers-refused, answers-too-long, answers-written}
+use Rattle.layout.proofs.Answering.{Answers, rows-many, answers-refused, answers-too-long, answers-written}
 use borrow.Author.Needs.{needs}
 use Rattle.layout.proofs.layout_text.Statement.{statement}
 use Rattle.layout.proofs.layout_text.Tie as tie
@@ -75,7 +75,7 @@ put-chunks-requires : tie.Need-put-chunks-requires
 put-chunks-requires c κs = passed (c .before .before)
 
 -- what is answered is what is promised
-promise : (c : tie.After-put-chunks) {told long : ℕ} {new : List ℕ} → Answers (answered (whole c) (length (lent c))) (lent c) told long new → LaidOut (s (chosen c)) (lent c) told long new
+promise : (c : tie.After-put-chunks) {returned size : ℕ} {new : List ℕ} → Answers (answered (whole c) (length (lent c))) (lent c) returned size new → LaidOut (s (chosen c)) (lent c) returned size new
 promise c is-answered =
     let found = chosen c in
     let bytes = found .before .before .before .before in

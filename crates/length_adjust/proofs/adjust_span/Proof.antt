@@ -4,9 +4,9 @@ use Prim.Native.Nat.{_<_}
 use mathlib.Core.List.{[], map}
 use lib.ListN.{length}
 use Rattle.labels.specs.Outcome.{given}
-use Rattle.labels.specs.LengthAdjust.{placesFrom, clusterIndexes}
+use Rattle.labels.specs.LengthAdjust.{placesFrom, clusterIndexes, adjustGlyphsOf}
 use Rattle.labels.specs.Looked.{bytesLooked, spanLooked}
-use Rattle.labels.specs.Cluster.{rounded, adjustGlyphsOf}
+use Rattle.labels.specs.Cluster.{rounded}
 use Rattle.clusters.proofs.Rows.{clusters-indexes}
 use Rattle.clusters.specs.Clusters.{clustersOf, indexesIn}
 use Rattle.length_adjust.specs.Marks.{markedIn}

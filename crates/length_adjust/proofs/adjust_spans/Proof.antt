@@ -7,7 +7,7 @@ use Rattle.labels.specs.Outcome.{Outcome, refused, given}
 use Rattle.labels.specs.Job.{blankSpan, spanAt}
 use Rattle.labels.specs.declared.Cluster.{Cluster}
 use Rattle.labels.proofs.Loops.{fold-turn, fold-done}
-use Rattle.labels.specs.Cluster.{adjustSpan, applyLengthAdjust}
+use Rattle.labels.specs.LengthAdjust.{adjustSpan, applyLengthAdjust}
 use Rattle.labels.specs.Looked.{spanLooked, spansLooked}
 use Rattle.clusters.specs.Clusters.{clustersOf, indexesIn}
 use Rattle.job_rows.specs.Rows.{spansIn}

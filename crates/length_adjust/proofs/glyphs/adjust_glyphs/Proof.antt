@@ -1,8 +1,8 @@
 -- `length_adjust::glyphs::adjust_glyphs` meets its contract. Assumes nothing.
 use mathlib.Core.Path.{_≡_, sym, _∙_}
 use lib.ListN.{length}
-use Rattle.labels.specs.LengthAdjust.{sumAt}
-use Rattle.labels.specs.Cluster.{rounded, widthOf}
+use Rattle.labels.specs.LengthAdjust.{sumAt, widthOf}
+use Rattle.labels.specs.Cluster.{rounded}
 use Rattle.clusters.specs.Clusters.{clustersOf}
 use Rattle.length_adjust.specs.Marks.{markedIn}
 use Rattle.length_adjust.specs.Answer.{adjustedOf}

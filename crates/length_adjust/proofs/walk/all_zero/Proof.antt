@@ -3,7 +3,7 @@ use mathlib.Core.Logic.{⊎-elim}
 use mathlib.Core.List.{List}
 use lib.Ieee.{Float}
 use Rattle.labels.specs.Single.{+0, isZero}
-use Rattle.labels.specs.Cluster.{widthOf}
+use Rattle.labels.specs.LengthAdjust.{widthOf}
 use Prim.Native.Nat.{ℕ, _+_, _-_}
 use mathlib.Core.Path.{_≡_, refl, sym, ap, _∙_}
 use mathlib.Core.Bool.{Bool, true, false}

@@ -5,7 +5,7 @@ use mathlib.Core.List.{foldl}
 use lib.ListN.{length, drop, length-replicate}
 use Rattle.labels.specs.Outcome.{given}
 use Rattle.labels.specs.Merge.{mergeSpan, mergeGlyphs}
-use Rattle.laws.proofs.All.{All}
+use Rattle.labels.specs.Lists.{All}
 use Rattle.job_rows.specs.Rows.{partsIn}
 use Rattle.merge.specs.Merged.{glyphsIn, mergedOf, FewGlyphs}
 use Rattle.merge.specs.Steps.{Below}

@@ -1,7 +1,6 @@
 -- `position::marks::mark` meets its contract. Assumes nothing.
-use mathlib.Core.Path.{ap, _∙_}
+use mathlib.Core.Path.{_∙_}
 use borrow.Author.Needs.{needs}
-use Rattle.labels.specs.declared.Cluster.{Cluster}
 use Rattle.position.proofs.Marking.{mark-rotated, mark-straight}
 use Rattle.position.proofs.marks.mark.Statement.{statement}
 use Rattle.position.proofs.marks.mark.Tie as tie
@@ -16,7 +15,7 @@ returns : tie.Need-returns
 returns c =
     let a = c .before .before .before .args in
     let e = c .with-marks .ensures in
-    (ap (λ (d : Cluster). d .index) e, λ job text offset r. e ∙ mark-rotated job text offset (a .before) (a .c) (a .angle) r (c .before .if1 .taken))
+    e ∙ mark-rotated (a .angle) (a .before) (a .c) (c .before .if1 .taken)
 
 with-marks-requires-2 : tie.Need-with-marks-requires-2
 with-marks-requires-2 c κs = search needs
@@ -25,10 +24,8 @@ returns-2 : tie.Need-returns-2
 returns-2 c =
     let moved = c .before .before in
     let a = moved .before .args in
-    let e = c .with-marks2 .ensures in (
-      ap (λ (d : Cluster). d .index) e,
-      λ job text offset r. e ∙ (rw (moved .shifts-differ .ensures) (mark-straight job text offset (a .before) (a .c) (a .angle) r (c .before .if1 .left))),
-    )
+    let e = c .with-marks2 .ensures in
+    e ∙ (rw (moved .shifts-differ .ensures) (mark-straight (a .angle) (a .before) (a .c) (c .before .if1 .left)))
 
 pub mark-spec : {M : Type 1} → statement M
 mark-spec =

@@ -8,12 +8,12 @@ use lib.ListN.{length, length-set}
 use borrow.Author.Needs.{needs}
 use Rattle.labels.specs.Job.{Job}
 use Rattle.labels.specs.Decode.{listOf}
-use Rattle.labels.specs.Cluster.{marked, markRelativeShifts}
+use Rattle.labels.specs.Position.{marked, markRelativeShifts}
 use Rattle.clusters.specs.Clusters.{Cluster, clustersOf, indexesIn}
 use Rattle.job_rows.specs.Rows.{jobAt}
 use Rattle.clusters.proofs.Turns.{stored, stage-turn, stage-done}
 use Rattle.position.specs.Given.{Numbered}
-use Rattle.position.proofs.Marking.{last, indexes-set, mark-start, angle-at}
+use Rattle.position.proofs.Marking.{marked-index, marked-by, last, indexes-set, mark-start, angle-at}
 use Rattle.position.proofs.marks.mark_relative_shifts.Statement.{statement}
 use Rattle.position.proofs.marks.mark_relative_shifts.Tie as tie
 
@@ -107,12 +107,13 @@ loop-again c =
       ap length (stored .1) ∙ length-set (l .words) _ _ ∙ l .inv .1,
       omega (arith, h),
       ap (λ (w : List (List ℕ)). indexesIn w (a .n)) (stored .1)
-          ∙ indexes-set (l .words) (a .n) (l .i) h (rows .1) _ (made .mark .ensures .0 ∙ index)
+          ∙ indexes-set (l .words) (a .n) (l .i) h (rows .1) _ (ap (λ (c : Cluster). c .index) (made .mark .ensures) ∙ marked-index (angle .float-in .result) (l .before) (at .result) ∙ index)
           ∙ l .inv .3,
       λ job text offset er en.
           stage-turn (last job text offset) (marked job text offset) (l .before) (at .result) (l .floats) (l .words) (a .n) (l .i) (at .result) (made .mark .result)
           (at .ensures)
-          (made .mark .ensures .1 job text offset
+          (made .mark .ensures
+          ∙ marked-by (angle .float-in .result) (l .before) (at .result) job text offset
           (angle-at job text offset _ (a .numbers .now) (a .words .now) (l .words) (a .n) (l .i) (number .number-at .result) (angle .float-in .result) (at .result .index)
           er en (l .inv .3) h (rows .1) (number .number-at .ensures) (angle .float-in .ensures) index))
           refl (stored .0) (stored .1) h (rows .0) (rows .1)

@@ -12,7 +12,7 @@ use Rattle.labels.specs.declared.Span.{Span}
 use Rattle.labels.specs.declared.Cluster.{Cluster}
 use Rattle.labels.specs.Job.{spanAt}
 use Rattle.labels.specs.Cluster.{rounded}
-use Rattle.labels.specs.Spacing.{nextLetterSpaced, applyLetterSpacing}
+use Rattle.labels.specs.LetterSpacing.{nextLetterSpaced, applyLetterSpacing}
 use Rattle.job_rows.specs.Rows.{spansIn}
 use Rattle.clusters.specs.Clusters.{clustersOf}
 use Rattle.spacing.specs.declared.letter.Kept.{Kept}

@@ -1,7 +1,7 @@
 -- `spacing::letter::letter_spaced` meets its contract. Assumes nothing.
 use mathlib.Core.Path.{ap, _∙_}
 use Rattle.labels.specs.Cluster.{rounded}
-use Rattle.labels.specs.Spacing.{settled, letterSpaced}
+use Rattle.labels.specs.LetterSpacing.{settled, letterSpaced}
 use borrow.Author.Needs.{needs}
 use Rattle.spacing.proofs.letter.letter_spaced.Statement.{statement}
 use Rattle.spacing.proofs.letter.letter_spaced.Tie as tie

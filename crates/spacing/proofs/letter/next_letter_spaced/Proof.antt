@@ -4,7 +4,7 @@ use lib.Dec.{eqb}
 use lib.Ieee.{Float}
 use Rattle.labels.specs.Script.{scriptSupportsLetterSpacing}
 use Rattle.labels.specs.Cluster.{rounded}
-use Rattle.labels.specs.Spacing.{letterSpaced, nextLetterSpaced}
+use Rattle.labels.specs.LetterSpacing.{letterSpaced, nextLetterSpaced}
 use borrow.Author.Needs.{needs}
 use Rattle.spacing.proofs.Tests.{cond-true, cond-false}
 use Rattle.spacing.proofs.letter.next_letter_spaced.Statement.{statement}

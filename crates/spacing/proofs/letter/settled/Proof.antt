@@ -2,7 +2,7 @@
 use mathlib.Core.Path.{_≡_}
 use mathlib.Core.Bool.{true, false}
 use Rattle.labels.specs.Single.{isPositive}
-use Rattle.labels.specs.Spacing.{settled}
+use Rattle.labels.specs.LetterSpacing.{settled}
 use Rattle.spacing.proofs.letter.settled.Statement.{statement}
 use Rattle.spacing.proofs.letter.settled.Tie as tie
 

@@ -7,7 +7,7 @@ use native.Mathlib.Omega.{arith}
 use lib.ListN.{length}
 use borrow.Author.Needs.{needs}
 use borrow.Author.Tests.{eq-eqb, ne-eqb}
-use Rattle.labels.specs.Cluster.{turned, applyWritingMode}
+use Rattle.labels.specs.WritingMode.{turned, applyWritingMode}
 use Rattle.clusters.specs.Clusters.{clustersOf}
 use Rattle.spacing.proofs.Mapped.{mapping, map-start, map-turn, map-done}
 use Rattle.spacing.proofs.Keeps.{turned-back}

@@ -1,5 +1,5 @@
 -- `spacing::mode::turned` meets its contract. Assumes nothing.
-use Rattle.labels.specs.Cluster.{turned}
+use Rattle.labels.specs.WritingMode.{turned}
 use Rattle.spacing.proofs.mode.turned.Statement.{statement}
 use Rattle.spacing.proofs.mode.turned.Tie as tie
 

@@ -8,7 +8,7 @@ use lib.ListN.{length}
 use borrow.Author.Needs.{needs}
 use borrow.Author.Tests.{not-true, not-false}
 use Rattle.labels.specs.Cluster.{rounded}
-use Rattle.labels.specs.Spacing.{wordSpaced, applyWordSpacing}
+use Rattle.labels.specs.WordSpacing.{wordSpaced, applyWordSpacing}
 use Rattle.job_rows.specs.Rows.{spansIn}
 use Rattle.clusters.specs.Clusters.{clustersOf}
 use Rattle.spacing.proofs.Mapped.{mapping, map-start, map-turn, map-done}

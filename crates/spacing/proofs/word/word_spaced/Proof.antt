@@ -5,7 +5,7 @@ use Rattle.labels.specs.Single.{_+ᶠ_}
 use Rattle.labels.specs.Job.{spanAt}
 use Rattle.labels.specs.Script.{isWordSeparatorAt}
 use Rattle.labels.specs.Cluster.{rounded}
-use Rattle.labels.specs.Spacing.{wordSpaced}
+use Rattle.labels.specs.WordSpacing.{wordSpaced}
 use Rattle.job_rows.specs.Rows.{spansIn}
 use borrow.Author.Needs.{needs}
 use Rattle.spacing.proofs.Tests.{cond-true, cond-false}

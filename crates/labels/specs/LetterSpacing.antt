@@ -1,22 +1,20 @@
--- Steps 4 and 5: letter spacing and word spacing. Definitions only.
+-- Step 4: letter spacing, and the clusters that it collapses. Definitions only.
 use Prim.Native.Nat.{ℕ, _-_}
 use mathlib.Core.Bool.{Bool, not, cond}
-use mathlib.Core.List.{List, map}
+use mathlib.Core.List.{List}
 use lib.ListN.{length}
 use lib.Dec.{eqb}
 use lib.Ieee.{Float}
 use Rattle.labels.specs.Lists.{scan, any}
 use Rattle.labels.specs.Single.{isZero}
 use Rattle.labels.specs.Job.{Span, spanAt}
-use Rattle.labels.specs.Script.{scriptSupportsLetterSpacing, isWordSeparatorAt}
+use Rattle.labels.specs.Script.{scriptSupportsLetterSpacing}
 use Rattle.labels.specs.Kind.{Kind}
 
 module _ (K : Kind) where
-  open Kind K using (ofFloat, _⊕_, Cluster, index, tag, span, advance, withAdvance, collapses, collapse)
+  open Kind K using (ofFloat, _⊕_, Cluster, tag, span, advance, withAdvance, collapses, collapse)
 
   infixl 75 _⊕_
-  -- ---- 4: letter spacing
-
   unfoldable pub settled : Cluster → Cluster
   settled c = cond (collapses c) (collapse c) c
 
@@ -34,13 +32,3 @@ module _ (K : Kind) where
   applyLetterSpacing spans cs =
       cond (any (λ (s : Span). not (isZero (s .letter))) spans)
       (scan (λ (left : ℕ) (c : Cluster). left - 1) (nextLetterSpaced spans) (length cs) cs) cs
-
-  -- ---- 5: word spacing
-
-  unfoldable pub wordSpaced : List ℕ → List Span → Cluster → Cluster
-  wordSpaced text spans c =
-      cond (isWordSeparatorAt text (index c)) (withAdvance (advance c ⊕ ofFloat (spanAt spans (span c) .word)) c) c
-
-  -- if any span's word spacing is not zero
-  unfoldable pub applyWordSpacing : List ℕ → List Span → List Cluster → List Cluster
-  applyWordSpacing text spans cs = cond (any (λ (s : Span). not (isZero (s .word))) spans) (map (wordSpaced text spans) cs) cs
