@@ -11,6 +11,10 @@ use Rattle.labels.specs.Script.Tag.{tag}
 unfoldable pub fontRow : List ℕ
 fontRow = 8 ∷ 0 ∷ 6 ∷ 0 ∷ 254 ∷ 0 ∷ 4 ∷ 0 ∷ 255 ∷ 0 ∷ 0 ∷ 128 ∷ 0 ∷ 0 ∷ 0 ∷ 0 ∷ 2 ∷ 128 ∷ []
 
+-- the same with x-height 1280, line-through 512 and subscript 256, so that no two of its numbers are equal
+unfoldable pub fullFont : List ℕ
+fullFont = 8 ∷ 0 ∷ 6 ∷ 0 ∷ 254 ∷ 0 ∷ 5 ∷ 0 ∷ 255 ∷ 0 ∷ 0 ∷ 128 ∷ 2 ∷ 0 ∷ 1 ∷ 0 ∷ 2 ∷ 128 ∷ []
+
 -- a glyph of font 0: id, byte index, cluster length, dx, dy, width, tag, orientation
 unfoldable pub glyphRow : ℕ → ℕ → ℕ → ℕ → ℕ → ℕ → ℕ → ℕ → List ℕ
 glyphRow id index long dx dy width script orientation =
@@ -26,12 +30,18 @@ letterRow id index long = wideRow id index long 1280
 unfoldable pub floatList : List ℕ → List ℕ
 floatList xs = bytes 2 (length xs) ++ flatMap (bytes 4) xs
 
--- a span of size 16 with no decoration: font, start, end, letter and word spacing, text length (flag, target, adjust), shifts, glyphs
+-- a span: font, start, end, size, letter and word spacing, text length (flag, target, adjust), dominant and alignment baseline, decorations,
+-- shifts, glyphs
+unfoldable pub fullSpan : ℕ → ℕ → ℕ → ℕ → ℕ → ℕ → ℕ → ℕ → ℕ → ℕ → ℕ → ℕ → List (List ℕ) → List (List ℕ) → List ℕ
+fullSpan font from to size letter word fixed target adjust dominant alignment decorations shifts glyphs =
+    bytes 2 from ++ bytes 2 to ++ bytes 1 font ++ bytes 4 size ++ bytes 4 letter ++ bytes 4 word ++ bytes 1 fixed ++ bytes 4 target
+    ++ bytes 1 adjust ++ bytes 1 dominant ++ bytes 1 alignment ++ bytes 1 decorations ++ bytes 1 (length shifts) ++ flatMap (λ (s : List ℕ). s) shifts
+    ++ bytes 2 (length glyphs) ++ flatMap (λ (g : List ℕ). g) glyphs
+
+-- of size 16, with no baseline and no decoration
 unfoldable pub fontSpan : ℕ → ℕ → ℕ → ℕ → ℕ → ℕ → ℕ → ℕ → List (List ℕ) → List (List ℕ) → List ℕ
 fontSpan font from to letter word fixed target adjust shifts glyphs =
-    bytes 2 from ++ bytes 2 to ++ bytes 1 font ++ bytes 4 0x41800000 ++ bytes 4 letter ++ bytes 4 word ++ bytes 1 fixed ++ bytes 4 target
-    ++ bytes 1 adjust ++ bytes 3 0 ++ bytes 1 (length shifts) ++ flatMap (λ (s : List ℕ). s) shifts
-    ++ bytes 2 (length glyphs) ++ flatMap (λ (g : List ℕ). g) glyphs
+    fullSpan font from to 0x41800000 letter word fixed target adjust 0 0 0 shifts glyphs
 
 -- with font 0
 unfoldable pub spanRow : ℕ → ℕ → ℕ → ℕ → ℕ → ℕ → ℕ → List (List ℕ) → List (List ℕ) → List ℕ
@@ -41,12 +51,16 @@ spanRow from to letter word fixed target adjust shifts glyphs = fontSpan 0 from 
 unfoldable pub plainSpan : ℕ → ℕ → List (List ℕ) → List ℕ
 plainSpan from to glyphs = spanRow from to 0 0 0 0 0 [] glyphs
 
--- at (100, 50)
-unfoldable pub chunkRow : ℕ → List ℕ → List (List ℕ) → List ℕ
-chunkRow anchor text spans =
-    bytes 1 3 ++ bytes 4 0x42c80000 ++ bytes 4 0x42480000 ++ bytes 1 anchor ++ bytes 1 0 ++ bytes 2 (length text) ++ text
+-- a chunk: flags, x, y, anchor, text, spans
+unfoldable pub placedChunk : ℕ → ℕ → ℕ → ℕ → List ℕ → List (List ℕ) → List ℕ
+placedChunk flags x y anchor text spans =
+    bytes 1 flags ++ bytes 4 x ++ bytes 4 y ++ bytes 1 anchor ++ bytes 1 0 ++ bytes 2 (length text) ++ text
     ++ bytes 1 (length spans)
     ++ flatMap (λ (s : List ℕ). s) spans
+
+-- at (100, 50)
+unfoldable pub chunkRow : ℕ → List ℕ → List (List ℕ) → List ℕ
+chunkRow anchor text spans = placedChunk 3 0x42c80000 0x42480000 anchor text spans
 
 -- a record: its length field, and what follows
 unfoldable pub recordRow : List ℕ → List ℕ
@@ -134,5 +148,5 @@ mixed =
 
 -- ---- opens all of these, for computed tests
 unfoldable pub built : Unit {0}
-unfolding fontRow glyphRow wideRow letterRow floatList fontSpan spanRow plainSpan chunkRow recordRow listsJob jobRow plainJob labelSpan labelAt labelJob plainVariant lengthVariant thirds mixed
+unfolding fontRow fullFont glyphRow wideRow letterRow floatList fullSpan fontSpan spanRow plainSpan placedChunk chunkRow recordRow listsJob jobRow plainJob labelSpan labelAt labelJob plainVariant lengthVariant thirds mixed
 built = tt

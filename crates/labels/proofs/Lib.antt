@@ -2,6 +2,7 @@
 pub mod Compute
 pub mod Seen
 pub mod Jobs
+pub mod Fields
 pub mod Label
 pub mod Traps
 pub mod Looked

@@ -8,7 +8,7 @@ use Rattle.labels.specs.Bytes.{bytes}
 use Rattle.labels.specs.Script.Tag.{tag}
 use Rattle.labels.specs.Layout.{layoutOf, numberOf}
 use Rattle.labels.proofs.Compute.{computed}
-use Rattle.labels.proofs.Jobs.{plainVariant, labelJob, fontRow, glyphRow, letterRow, spanRow, plainSpan, chunkRow, jobRow, plainJob, built}
+use Rattle.labels.proofs.Jobs.{plainVariant, labelJob, fontRow, glyphRow, letterRow, fontSpan, spanRow, plainSpan, chunkRow, listsJob, jobRow, plainJob, built}
 
 -- ---- jobs
 
@@ -31,6 +31,11 @@ jobOf chunks = plainJob [] [] chunks
 textJob : List ℕ → List (List ℕ) → List ℕ
 unfolding jobOf
 textJob text spans = jobOf (chunkRow 0 text spans ∷ [])
+
+-- one with a span that has a shift of some kind and number
+shifted : ℕ → ℕ → List ℕ
+unfolding textJob
+shifted kind number = textJob [] (spanRow 0 0 0 0 0 0 0 ((kind ∷ bytes 4 number) ∷ []) [] ∷ [])
 
 -- a record of n + 4 bytes, all zero after its length field, which is right
 blank : ℕ → List ℕ
@@ -109,6 +114,9 @@ counts =
     ∷ plain (jobRow 0 (replicate 17 fontRow) [] [] []) 3
     ∷ plain (plainJob (replicate 4096 0) [] []) 0
     ∷ plain (plainJob (replicate 4097 0) [] []) 3
+    ∷ plain (listsJob 0 (fontRow ∷ []) [] (replicate 4096 0) [] []) 0
+    ∷ plain (listsJob 0 (fontRow ∷ []) [] (replicate 4097 0) [] []) 3
+    ∷ plain (plainJob [] (replicate 4096 0) []) 0
     ∷ plain (plainJob [] (replicate 4097 0) []) 3
     ∷ plain (plainJob [] [] (replicate 16 (chunkRow 0 [] []))) 0
     ∷ plain (plainJob [] [] (replicate 17 (chunkRow 0 [] []))) 3
@@ -125,18 +133,31 @@ counts-told : numbers counts ≡ told counts
 unfolding computed built numbers told counts
 counts-told = refl
 
--- 4: writing mode 2; units per em 0; chunk flags 4, and x given with its flag clear; anchor 3; flow 1; span font 1; length flag 2; −0 with the length flag clear; adjust 3 (2 and 1 pass);
--- baselines 12; decorations 8; cluster lengths 0 and 65 (64 passes); width ±65,536 (±65,535 pass); glyph fonts 1 and 255; orientation 2
+-- 4: writing mode 2 (1 passes); units per em, x-height and thickness 0; a number in dx, dy and rotate that is none; chunk flags 4, and x or y given with its flag clear; anchor 3
+-- (1 passes); flow 1; span font 1; glyphs in a span without a font, which passes with none; word spacing that is no number; length flag 2; −0 with the length flag clear; adjust 3 (2
+-- and 1 pass); baselines 12 (11 pass); decorations 8 (7 passes); a shift of kind 4, a number in one of kind 2 (in one of kind 3 it passes), one of kind 3 that is no number; cluster
+-- lengths 0 and 65 (64 passes); dx, dy and width ±65,536 (±65,535 pass); glyph fonts 1 and 255; orientation 2 (1 passes)
 values : List Case
-unfolding plain label changed
+unfolding plain label changed textJob shifted
 values =
     plain (changed ((5, 2) ∷ [])) 4
+    ∷ plain (changed ((5, 1) ∷ [])) 0
     ∷ plain (changed ((7, 0) ∷ [])) 4
+    ∷ plain (changed ((13, 0) ∷ [])) 4
+    ∷ plain (changed ((18, 0) ∷ [])) 4
+    ∷ plain (plainJob (0x7fc00000 ∷ []) [] []) 4
+    ∷ plain (listsJob 0 (fontRow ∷ []) [] (0x7fc00000 ∷ []) [] []) 4
+    ∷ plain (plainJob [] (0x7fc00000 ∷ []) []) 4
     ∷ plain (changed ((32, 4) ∷ [])) 4
     ∷ plain (changed ((32, 2) ∷ [])) 4
+    ∷ plain (changed ((32, 1) ∷ [])) 4
     ∷ plain (changed ((41, 3) ∷ [])) 4
+    ∷ plain (changed ((41, 1) ∷ [])) 0
     ∷ plain (changed ((42, 1) ∷ [])) 4
     ∷ plain (changed ((53, 1) ∷ [])) 4
+    ∷ plain (changed ((53, 255) ∷ [])) 4
+    ∷ plain (textJob (65 ∷ []) (fontSpan 255 0 1 0 0 0 0 0 [] [] ∷ [])) 0
+    ∷ plain (changed ((62, 0x7f) ∷ (63, 0xc0) ∷ [])) 4
     ∷ plain (changed ((66, 2) ∷ [])) 4
     ∷ plain (changed ((67, 0x80) ∷ [])) 4
     ∷ plain (changed ((66, 1) ∷ (67, 0x80) ∷ [])) 0
@@ -146,9 +167,18 @@ values =
     ∷ plain (changed ((72, 12) ∷ [])) 4
     ∷ plain (changed ((73, 12) ∷ [])) 4
     ∷ plain (changed ((74, 8) ∷ [])) 4
+    ∷ plain (changed ((72, 11) ∷ (73, 11) ∷ (74, 7) ∷ [])) 0
+    ∷ plain (shifted 4 0) 4
+    ∷ plain (shifted 2 0x3f800000) 4
+    ∷ plain (shifted 3 0x3f800000) 0
+    ∷ plain (shifted 3 0x7fc00000) 4
     ∷ plain (changed ((84, 0) ∷ [])) 4
     ∷ plain (changed ((84, 65) ∷ [])) 4
     ∷ plain (changed ((84, 64) ∷ [])) 0
+    ∷ plain (changed ((86, 1) ∷ [])) 4
+    ∷ plain (changed ((87, 255) ∷ (88, 255) ∷ [])) 0
+    ∷ plain (changed ((90, 1) ∷ [])) 4
+    ∷ plain (changed ((91, 255) ∷ (92, 255) ∷ [])) 0
     ∷ plain (changed ((94, 1) ∷ (95, 0) ∷ [])) 4
     ∷ plain (changed ((95, 255) ∷ (96, 255) ∷ [])) 0
     ∷ plain (changed ((93, 255) ∷ (94, 255) ∷ (95, 0) ∷ (96, 0) ∷ [])) 4
@@ -156,6 +186,7 @@ values =
     ∷ plain (changed ((97, 1) ∷ [])) 4
     ∷ plain (changed ((97, 255) ∷ [])) 4
     ∷ plain (changed ((102, 2) ∷ [])) 4
+    ∷ plain (changed ((102, 1) ∷ [])) 0
     ∷ []
 
 values-told : numbers values ≡ told values

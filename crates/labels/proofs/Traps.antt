@@ -8,11 +8,12 @@ use Rattle.labels.specs.Outcome.{Outcome, refused, given}
 use Rattle.labels.specs.Bytes.{bytes}
 use Rattle.labels.specs.Script.{scriptSupportsLetterSpacing, isWordSeparatorAt}
 use Rattle.labels.specs.Script.Tag.{tag}
+use Rattle.labels.specs.Decoration.{Run}
 use Rattle.labels.specs.Answer.{GlyphRow, ClusterRow, SpanRow, ChunkRow}
 use Rattle.labels.specs.Layout.{layoutRows}
 use Rattle.labels.proofs.Compute.{computed}
 use Rattle.labels.proofs.Seen.{bits, whole, below, -0, shown}
-use Rattle.labels.proofs.Jobs.{Variant, fontRow, glyphRow, wideRow, letterRow, spanRow, plainSpan, chunkRow, jobRow, plainJob, labelJob, plainVariant, lengthVariant, built}
+use Rattle.labels.proofs.Jobs.{Variant, fontRow, fullFont, glyphRow, wideRow, letterRow, fullSpan, fontSpan, spanRow, plainSpan, placedChunk, chunkRow, listsJob, jobRow, plainJob, labelJob, plainVariant, lengthVariant, built}
 
 -- ---- what is seen of a layout
 
@@ -59,8 +60,25 @@ angleOf c = (c .flags, bits (c .angle))
 penOf : ChunkRow → ℕ × ℕ
 penOf c = (bits (c .penX), bits (c .penY))
 
+-- a cluster row in document 01's order, without its glyphs
+rowOf : ClusterRow → List ℕ
+rowOf c =
+    c .index ∷ c .flags ∷ bits (c .width) ∷ bits (c .advance) ∷ bits (c .spacing) ∷ bits (c .ascent) ∷ bits (c .descent) ∷ bits (c .nudge) ∷ bits (c .scale)
+    ∷ bits (c .x) ∷ bits (c .y) ∷ bits (c .angle) ∷ []
+
+-- a span row likewise, without its runs, and the runs
+spanOf : SpanRow → List ℕ
+spanOf s =
+    s .index ∷ bits (s .x) ∷ bits (s .y) ∷ bits (s .baseline) ∷ bits (s .thickness) ∷ bits (s .under) ∷ bits (s .over) ∷ bits (s .through) ∷ []
+
+runsOf : SpanRow → List (ℕ × ℕ)
+runsOf s = map (λ (r : Run). (r .first, bits (r .width))) (s .runs)
+
+originOf : SpanRow → ℕ × ℕ
+originOf s = (bits (s .x), bits (s .y))
+
 unfoldable seen : Unit {0}
-unfolding laidOut chunksIn clustersIn spansIn idsOf lineOf lengthLine offsetsOf scaleOf angleOf penOf shown
+unfolding laidOut chunksIn clustersIn spansIn idsOf lineOf lengthLine offsetsOf scaleOf angleOf penOf rowOf spanOf runsOf originOf shown
 seen = tt
 
 -- ---- jobs
@@ -93,6 +111,17 @@ once : clustersIn idsOf (merge (letterRow 1 0 1 ∷ letterRow 2 0 1 ∷ []) (let
 unfolding computed built seen merge
 once = refl
 
+-- a glyph of a later span that lies outside this span replaces nothing
+outside : clustersIn idsOf (abcd (plainSpan 0 2 (letterRow 1 0 1 ∷ letterRow 2 1 1 ∷ []) ∷ plainSpan 2 4 (letterRow 5 0 1 ∷ []) ∷ [])) ≡ (1 ∷ []) ∷ (2 ∷ []) ∷ []
+unfolding computed built seen abcd
+outside = refl
+
+-- but those that follow a shorter one are inserted unfiltered: 6 and 7 lie outside the span of 5
+unfiltered : clustersIn idsOf (abcd (plainSpan 0 0 (letterRow 1 0 3 ∷ []) ∷ plainSpan 0 1 (letterRow 5 0 1 ∷ letterRow 6 1 1 ∷ letterRow 7 2 1 ∷ []) ∷ plainSpan 1 4 [] ∷ []))
+    ≡ (5 ∷ []) ∷ (6 ∷ []) ∷ (7 ∷ []) ∷ []
+unfolding computed built seen abcd
+unfiltered = refl
+
 -- remembered places are not moved: 5 takes place 1 and is removed with 6 at place 0, so place 1, where index 0 stands by then, is skipped
 remembered : clustersIn idsOf (merge (letterRow 1 2 1 ∷ letterRow 2 1 1 ∷ letterRow 3 0 1 ∷ letterRow 4 3 1 ∷ []) (letterRow 5 1 1 ∷ letterRow 6 2 2 ∷ letterRow 7 0 1 ∷ []))
     ≡ (6 ∷ []) ∷ (3 ∷ []) ∷ (4 ∷ []) ∷ []
@@ -115,6 +144,12 @@ offsets : clustersIn offsetsOf twoGlyphs
     ≡ ((whole 3, 0) ∷ (whole 1276, below 5) ∷ []) ∷ []
 unfolding computed built seen twoGlyphs
 offsets = refl
+
+-- a glyph that no span covers is left out; a cluster's size is that of the first span that covers it, whose list it stands in or not
+covering : clustersIn lineOf (abcd (plainSpan 0 1 (letterRow 1 0 1 ∷ letterRow 2 1 1 ∷ letterRow 3 3 1 ∷ []) ∷ fullSpan 0 1 3 0x42000000 0 0 0 0 0 0 0 0 [] [] ∷ []))
+    ≡ (0 ∷ whole 10 ∷ whole 10 ∷ 0 ∷ []) ∷ (0 ∷ whole 20 ∷ whole 20 ∷ whole 10 ∷ []) ∷ []
+unfolding computed built seen abcd
+covering = refl
 
 -- ---- steps 4 and 5
 
@@ -225,6 +260,13 @@ right-to-left : clustersIn lineOf
 unfolding computed built seen
 right-to-left = refl
 
+-- a shift down alone is a relative shift too, and it stays for what follows
+downwards : clustersIn {A = ℕ × ℕ} (λ (c : ClusterRow). (c .flags, bits (c .y)))
+    (listsJob 0 (fontRow ∷ []) [] (0 ∷ whole 3 ∷ []) [] (chunkRow 0 (65 ∷ 66 ∷ 67 ∷ []) (plainSpan 0 3 (letterRow 1 0 1 ∷ letterRow 2 1 1 ∷ letterRow 3 2 1 ∷ []) ∷ []) ∷ []))
+    ≡ (0, 0) ∷ (1, whole 3) ∷ (0, whole 3) ∷ []
+unfolding computed built seen
+downwards = refl
+
 -- a rotated cluster is marked, also the first; −0 is no rotation
 rotation : clustersIn angleOf
     (plainJob [] (whole 90 ∷ -0 ∷ []) (chunkRow 0 (65 ∷ 66 ∷ []) (plainSpan 0 2 (letterRow 1 0 1 ∷ letterRow 2 1 1 ∷ []) ∷ []) ∷ []))
@@ -241,7 +283,90 @@ baselines : spansIn (λ (s : SpanRow). bits (s .baseline))
 unfolding computed built seen abcd
 baselines = refl
 
+-- one letter in a span with a font in which no two numbers are equal: mode, size, baselines, decorations, shifts
+letterIn : ℕ → ℕ → ℕ → ℕ → List (List ℕ) → List ℕ
+letterIn mode dominant alignment decorations shifts =
+    jobRow mode (fullFont ∷ []) [] [] (chunkRow 0 (65 ∷ []) (fullSpan 0 0 1 0x41800000 0 0 0 0 0 dominant alignment decorations shifts (letterRow 1 0 1 ∷ []) ∷ []) ∷ [])
+
+baselineOf : List ℕ → List ℕ
+baselineOf job = spansIn (λ (s : SpanRow). bits (s .baseline)) job
+
+-- a subscript is taken away before the sum is negated, a superscript and a number are added
+sub-and-super : map (λ (shift : List ℕ). baselineOf (letterIn 0 0 0 0 (shift ∷ []))) ((0 ∷ bytes 4 0) ∷ (1 ∷ bytes 4 0) ∷ (2 ∷ bytes 4 0) ∷ (3 ∷ bytes 4 (whole 7)) ∷ [])
+    ≡ (0 ∷ []) ∷ (whole 2 ∷ []) ∷ (below 5 ∷ []) ∷ (below 7 ∷ []) ∷ []
+unfolding computed built seen letterIn baselineOf
+sub-and-super = refl
+
+-- each alignment baseline; Auto and Baseline hand over to the dominant one, here Central
+alignments : map (λ (k : ℕ). baselineOf (letterIn 0 8 k 0 [])) (0 ∷ 1 ∷ 2 ∷ 3 ∷ 4 ∷ 5 ∷ 6 ∷ 7 ∷ 8 ∷ 9 ∷ 10 ∷ 11 ∷ [])
+    ≡ (whole 4 ∷ []) ∷ (whole 4 ∷ []) ∷ (whole 12 ∷ []) ∷ (whole 12 ∷ []) ∷ (whole 5 ∷ []) ∷ (whole 4 ∷ []) ∷ (below 4 ∷ []) ∷ (below 4 ∷ [])
+    ∷ (below 4 ∷ []) ∷ (0 ∷ []) ∷ (0x4119999a ∷ []) ∷ (whole 6 ∷ []) ∷ []
+unfolding computed built seen letterIn baselineOf
+alignments = refl
+
+-- each dominant baseline
+dominants : map (λ (k : ℕ). baselineOf (letterIn 0 k 0 0 [])) (0 ∷ 1 ∷ 2 ∷ 3 ∷ 4 ∷ 5 ∷ 6 ∷ 7 ∷ 8 ∷ 9 ∷ 10 ∷ 11 ∷ [])
+    ≡ (0 ∷ []) ∷ (0 ∷ []) ∷ (0 ∷ []) ∷ (0 ∷ []) ∷ (below 4 ∷ []) ∷ (0 ∷ []) ∷ (0x4119999a ∷ []) ∷ (whole 6 ∷ [])
+    ∷ (whole 4 ∷ []) ∷ (whole 5 ∷ []) ∷ (below 4 ∷ []) ∷ (whole 12 ∷ []) ∷ []
+unfolding computed built seen letterIn baselineOf
+dominants = refl
+
+-- each decoration alone, none, and all, left to right; all of them top to bottom, where no baseline counts
+decorations : map (spansIn spanOf)
+    (letterIn 0 0 0 0 [] ∷ letterIn 0 0 0 1 [] ∷ letterIn 0 0 0 2 [] ∷ letterIn 0 0 0 4 [] ∷ letterIn 0 0 0 7 [] ∷ letterIn 1 8 8 7 ((1 ∷ bytes 4 0) ∷ []) ∷ [])
+    ≡ ((0 ∷ whole 100 ∷ whole 50 ∷ 0 ∷ whole 1 ∷ 0 ∷ 0 ∷ 0 ∷ []) ∷ [])
+    ∷ ((0 ∷ whole 100 ∷ whole 50 ∷ 0 ∷ whole 1 ∷ whole 2 ∷ 0 ∷ 0 ∷ []) ∷ [])
+    ∷ ((0 ∷ whole 100 ∷ whole 50 ∷ 0 ∷ whole 1 ∷ 0 ∷ below 12 ∷ 0 ∷ []) ∷ [])
+    ∷ ((0 ∷ whole 100 ∷ whole 50 ∷ 0 ∷ whole 1 ∷ 0 ∷ 0 ∷ below 4 ∷ []) ∷ [])
+    ∷ ((0 ∷ whole 100 ∷ whole 50 ∷ 0 ∷ whole 1 ∷ whole 2 ∷ below 12 ∷ below 4 ∷ []) ∷ [])
+    ∷ ((0 ∷ whole 100 ∷ whole 50 ∷ whole 2 ∷ whole 1 ∷ whole 8 ∷ below 8 ∷ 0 ∷ []) ∷ [])
+    ∷ []
+unfolding computed built seen letterIn
+decorations = refl
+
+-- a span without a font has no row, but counts. A cluster outside the span ends its run, and one with a relative shift begins another
+fiveLetters : List ℕ
+fiveLetters =
+    plainJob [] (0 ∷ 0 ∷ whole 90 ∷ [])
+    (chunkRow 0 (65 ∷ 66 ∷ 67 ∷ 68 ∷ []) (fontSpan 255 0 0 0 0 0 0 0 [] [] ∷ plainSpan 0 3 (letterRow 1 0 1 ∷ letterRow 2 1 1 ∷ letterRow 3 2 1 ∷ letterRow 4 3 1 ∷ letterRow 5 0 1 ∷ []) ∷ plainSpan 3 4 [] ∷ []) ∷ [])
+
+span-indexes : spansIn (λ (s : SpanRow). s .index) fiveLetters ≡ 1 ∷ 2 ∷ []
+unfolding computed built seen fiveLetters
+span-indexes = refl
+
+runs : spansIn runsOf fiveLetters ≡ ((0, whole 20) ∷ (2, whole 10) ∷ (4, whole 10) ∷ []) ∷ ((3, whole 10) ∷ []) ∷ []
+unfolding computed built seen fiveLetters
+runs = refl
+
+-- ---- a whole row
+
+-- two letters top to bottom, the second upright and rotated: letter spacing 1, text length 54 by Spacing, dx 3 for both and dy 5 for the second
+upright : List ℕ
+upright =
+    listsJob 1 (fullFont ∷ []) (whole 3 ∷ []) (0 ∷ whole 5 ∷ []) (0 ∷ whole 90 ∷ [])
+    (chunkRow 0 (65 ∷ 66 ∷ []) (spanRow 0 2 (whole 1) 0 1 (whole 54) 0 [] (glyphRow 1 0 1 0 0 1280 (tag "Latn") 0 ∷ glyphRow 2 1 1 0 0 1280 (tag "Latn") 1 ∷ []) ∷ []) ∷ [])
+
+upright-rows : clustersIn rowOf upright
+    ≡ (0 ∷ 4 ∷ whole 10 ∷ whole 44 ∷ whole 34 ∷ whole 12 ∷ below 4 ∷ whole 4 ∷ 0 ∷ 0 ∷ below 3 ∷ 0 ∷ [])
+    ∷ (1 ∷ 19 ∷ whole 10 ∷ whole 44 ∷ whole 34 ∷ whole 5 ∷ below 5 ∷ whole 4 ∷ 0 ∷ whole 49 ∷ below 3 ∷ whole 90 ∷ [])
+    ∷ []
+unfolding computed built seen upright
+upright-rows = refl
+
+upright-pen : chunksIn penOf upright ≡ (whole 97, whole 143) ∷ []
+unfolding computed built seen upright
+upright-pen = refl
+
 -- ---- pen and origin
+
+-- where a flag is clear the origin comes from the pen, which stands at (110, 50) behind the first letter: flags 0, x alone, y alone, both
+origins : map (λ (chunk : List ℕ). spansIn originOf (plainJob [] [] (chunkRow 0 (65 ∷ []) (plainSpan 0 1 (letterRow 1 0 1 ∷ []) ∷ []) ∷ chunk ∷ [])))
+    (placedChunk 0 0 0 0 (66 ∷ []) (plainSpan 0 1 (letterRow 2 0 1 ∷ []) ∷ []) ∷ placedChunk 1 (whole 7) 0 0 (66 ∷ []) (plainSpan 0 1 (letterRow 2 0 1 ∷ []) ∷ [])
+    ∷ placedChunk 2 0 (whole 8) 0 (66 ∷ []) (plainSpan 0 1 (letterRow 2 0 1 ∷ []) ∷ []) ∷ placedChunk 3 (whole 7) (whole 8) 0 (66 ∷ []) (plainSpan 0 1 (letterRow 2 0 1 ∷ []) ∷ []) ∷ [])
+    ≡ ((whole 100, whole 50) ∷ (whole 110, whole 50) ∷ []) ∷ ((whole 100, whole 50) ∷ (whole 7, whole 50) ∷ [])
+    ∷ ((whole 100, whole 50) ∷ (whole 110, whole 8) ∷ []) ∷ ((whole 100, whole 50) ∷ (whole 7, whole 8) ∷ []) ∷ []
+unfolding computed built seen
+origins = refl
 
 -- the pen after two chunks at (100, 50) with one letter each: left to right, and swapped top to bottom, where 100 + −0 is 100
 pens : map (λ (mode : ℕ). chunksIn penOf (jobRow mode (fontRow ∷ []) [] [] (chunkRow 0 (65 ∷ []) (plainSpan 0 1 (letterRow 1 0 1 ∷ []) ∷ []) ∷ chunkRow 0 (66 ∷ []) [] ∷ []))) (0 ∷ 1 ∷ [])
