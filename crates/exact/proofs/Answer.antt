@@ -1,6 +1,6 @@
 -- Demand 3: of a job that has what checks 3 to 6 show (`JobIn`), as every accepted one has, the answer's bytes hold as many chunks and clusters as the exact
 -- layout, with the same byte indexes and collapse marks, and each offset is finite and within the distance allowed in its chunk of the exact one. Assumes nothing.
-use Prim.Native.Nat.{ℕ, _+_, _/_, _%_, _≤_, _<_}
+use Prim.Native.Nat.{ℕ, _+_, _/_, _%_, _≤_}
 use mathlib.Core.Path.{_≡_, refl, sym, ap, _∙_, subst}
 use mathlib.Core.Bool.{Bool, true, false, cond}
 use mathlib.Core.List.{List, [], _∷_, _++_, map, foldl, append-nil}
@@ -8,10 +8,9 @@ use native.Mathlib.Omega.{arith}
 use borrow.Author.Tests.{eq-eqb, ne-eqb}
 use lib.ListN.{length, drop, length-map}
 use lib.Seq.{append-snoc}
-use lib.Dec.{T, eqb, leb, lit<}
-use lib.Ieee.{Float, nan, inf, fin}
-use lib.Ieee.Fits.{down-pos}
-use Rattle.rounding.specs.Fraction.{Frac, valueOf}
+use lib.Dec.{T, eqb, leb}
+use lib.Ieee.{Float}
+use Rattle.rounding.specs.Fraction.{Frac}
 use Rattle.laws.proofs.All.{all-of, all-weaken, both}
 use Rattle.laws.proofs.Outcomes.{reached}
 use Rattle.laws.proofs.Accepted.{accepted}
@@ -37,12 +36,6 @@ use Rattle.exact.proofs.Accepted.{input, spans-in, fonts-in, glyph-in, 
 use Rattle.exact.proofs.Chunk.{Placed, chunk-placed}
 
 -- ---- a row
-
-value-positive : (x : Float) → 0 < valueOf x .den
-unfolding valueOf
-value-positive nan = lit< tt
-value-positive (inf s) = lit< tt
-value-positive (fin s m e) = down-pos e
 
 -- the collapse mark is read back from the flags
 bit-below : (b : Bool) (n : ℕ) → bit b n ≤ n
@@ -71,8 +64,7 @@ row-near {c = c} mode gs p =
       index = p .index;
       collapsed = flags-collapsed mode c ∙ p .collapsed;
       finite = n .0;
-      above = (value-positive (c .x), n .1, n .2);
-      distance = n .3;
+      distance = n .1;
     }
 
 rows-near : {b : Frac} {cs : List Cluster} {qs : List ExactCluster} (mode : ℕ) (gs : List Glyph) → AllPairs (Placed b) cs qs → AllPairs (Near b) (map (clusterRow mode gs) cs) qs

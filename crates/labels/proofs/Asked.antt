@@ -4,9 +4,9 @@ use Prim.Native.Nat.{ℕ, _^_}
 use mathlib.Core.Path.{_≡_, refl}
 use mathlib.Core.Bool.{Bool, true, false, _&&_}
 use mathlib.Core.List.{List, [], _∷_, map}
-use lib.Dec.{eqb, ltb}
+use lib.Dec.{eqb, lit<}
 use lib.IntN.{ℤ, pos, negℤ}
-use Rattle.rounding.specs.Fraction.{Frac, leᵠ}
+use Rattle.rounding.specs.Fraction.{Frac, _/ᵠ_, leᵠ}
 use Rattle.labels.specs.Outcome.{Outcome, refused, given}
 use Rattle.labels.specs.Job.{Job, Chunk, Glyph}
 use Rattle.labels.specs.Check.{checked}
@@ -25,9 +25,9 @@ pub record Asked : Type 0 where
   pub distance : Frac
   pub offsets : List Frac
 
--- the same value, of fractions whose lower number is above 0
+-- the same value
 same : Frac → Frac → Bool
-same a b = ltb 0 (a .den) && leᵠ a b && leᵠ b a
+same a b = leᵠ a b && leᵠ b a
 
 allSame : List Frac → List Frac → Bool
 unfolding same
@@ -68,7 +68,7 @@ agreed = true ∷ true ∷ true ∷ true ∷ []
 
 infix 70 _over_
 _over_ : ℤ → ℕ → Frac
-z over n = record { num = z; den = n }
+z over n = record { num = z; den = 1; above = lit< tt } /ᵠ n
 
 plus : ℕ → Frac
 plus n = pos n over 1

@@ -4,7 +4,7 @@ use Prim.Native.Nat.{ℕ, _/_, _%_}
 use mathlib.Core.Path.{_≡_, refl}
 use mathlib.Core.Bool.{Bool, true, false, not, cond, _&&_}
 use mathlib.Core.List.{List, [], _∷_}
-use lib.Dec.{T, eqb, ltb, eqb→eq, lit<}
+use lib.Dec.{T, eqb, eqb→eq}
 use lib.Ieee.Fits.{and-l, and-r}
 use lib.Ieee.Scale.{finite as isFinite}
 use Rattle.rounding.specs.Fraction.{Frac, _-ᵠ_, absᵠ, leᵠ, valueOf}
@@ -26,9 +26,6 @@ isNear : Frac → ClusterRow → ExactCluster → Bool
 unfolding isSame
 isNear b row q =
     eqb (row .index) (q .group .first .index) && isSame (eqb (row .flags / 32 % 2) 1) (q .collapsed) && isFinite (row .x)
-    && ltb 0 (valueOf (row .x) .den)
-    && ltb 0 (q .x .den)
-    && ltb 0 (b .den)
     && leᵠ (absᵠ (valueOf (row .x) -ᵠ q .x)) b
 
 areNear : Frac → List ClusterRow → List ExactCluster → Bool
@@ -43,20 +40,19 @@ unfolding isSame
 same-of true true t = refl
 same-of false false t = refl
 
-seven : (a b c d e f g : Bool) → T (a && b && c && d && e && f && g) → T a × T b × T c × T d × T e × T f × T g
-seven true true true true true true true t = (tt, tt, tt, tt, tt, tt, tt)
+four : (a b c d : Bool) → T (a && b && c && d) → T a × T b × T c × T d
+four true true true true t = (tt, tt, tt, tt)
 
 near-of : (b : Frac) (row : ClusterRow) (q : ExactCluster) → T (isNear b row q) → Near b row q
 unfolding isNear
 near-of b row q t =
     let k =
-    seven (eqb (row .index) (q .group .first .index)) (isSame (eqb (row .flags / 32 % 2) 1) (q .collapsed)) (isFinite (row .x)) (ltb 0 (valueOf (row .x) .den)) (ltb 0 (q .x .den)) (ltb 0 (b .den)) (leᵠ (absᵠ (valueOf (row .x) -ᵠ q .x)) b) t in
+    four (eqb (row .index) (q .group .first .index)) (isSame (eqb (row .flags / 32 % 2) 1) (q .collapsed)) (isFinite (row .x)) (leᵠ (absᵠ (valueOf (row .x) -ᵠ q .x)) b) t in
     record {
       index = eqb→eq (row .index) (q .group .first .index) (k .0);
       collapsed = same-of (eqb (row .flags / 32 % 2) 1) (q .collapsed) (k .1);
       finite = k .2;
-      above = (lit< (k .3), lit< (k .4), lit< (k .5));
-      distance = k .6;
+      distance = k .3;
     }
 
 all-near : (b : Frac) (rows : List ClusterRow) (qs : List ExactCluster) → T (areNear b rows qs) → AllPairs (Near b) rows qs

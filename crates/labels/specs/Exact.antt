@@ -1,5 +1,5 @@
 -- The exact layout of document 01: steps 1 and 2's choices, and steps 4 to 7 on fractions. It is fed the job alone. And demand 3. Definitions only.
-use Prim.Native.Nat.{ℕ, _+_, _/_, _%_, _^_, _<_}
+use Prim.Native.Nat.{ℕ, _+_, _/_, _%_, _^_}
 use mathlib.Core.Path.{_≡_}
 use mathlib.Core.Bool.{Bool, cond}
 use mathlib.Core.List.{List, [], _∷_, foldl, zipWith}
@@ -140,12 +140,11 @@ pub data AllPairs {A B : Type 0} (R : A → B → Type 0) : List A → List B �
   more : {a : A} {b : B} {xs : List A} {ys : List B} → R a b → AllPairs R xs ys → AllPairs R (a ∷ xs) (b ∷ ys)
 
 -- a cluster of an answer beside the exact one: the same byte index; marked as collapsed exactly where the rounded steps collapse it;
--- shift x finite, and at most b from the exact one. The lower number of each fraction is above 0
+-- shift x finite, and at most b from the exact one
 pub record Near (b : Frac) (row : ClusterRow) (q : ExactCluster) : Type 0 where
   pub index : row .index ≡ q .group .first .index
   pub collapsed : eqb (row .flags / 32 % 2) 1 ≡ q .collapsed
   pub finite : T (isFinite (row .x))
-  pub above : (0 < valueOf (row .x) .den) × (0 < q .x .den) × (0 < b .den)
   pub distance : T (leᵠ (absᵠ (valueOf (row .x) -ᵠ q .x)) b)
 
 -- an answer's chunk, given the merged glyphs of the job's: as many clusters, each near

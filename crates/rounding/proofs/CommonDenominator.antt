@@ -4,7 +4,7 @@ use mathlib.Core.Path.{_≡_, refl, sym, ap, ap₂, _∙_}
 use mathlib.Core.Logic.{_⊎_, inl, inr}
 use mathlib.Core.Bool.{Bool, true, false, _&&_, cond}
 use Prim.Native.Nat.{ℕ, suc, _+_, _*_, _/_, _<_}
-use native.Mathlib.Nat.{mul-pos}
+use native.Mathlib.Nat.{mul-pos, max-eq-right}
 use native.Mathlib.Omega.{arith}
 use lib.IntN.{ℤ, pos, negsuc, negℤ, natAbs, _+ℤ_, _*ℤ_}
 use lib.Dec.{leb, ltb, lit<}
@@ -73,8 +73,8 @@ reads-sub r s = reads-add r (reads-neg s)
 pub reads-div : {D : ℕ} {f : Frac} {P N : ℕ} (c P' N' : ℕ) → 0 < c → P + c * N' ≡ c * P' + N → Reads D f P N → Reads D (f /ᵠ c) P' N'
 reads-div {D} {f} {P} {N} c P' N' C e r =
     record {
-      positive = mul-pos (r .positive) C;
-      cross = go (posPartℤ (f .num) * (D * unit)) (negPartℤ (f .num) * (D * unit)) (f .den) (ap (λ (x : ℕ). x * f .den) e) (r .cross);
+      positive = (f /ᵠ c) .above;
+      cross = rw (max-eq-right C) (go (posPartℤ (f .num) * (D * unit)) (negPartℤ (f .num) * (D * unit)) (f .den) (ap (λ (x : ℕ). x * f .den) e) (r .cross));
     }
   where
     go : (a b d : ℕ) → (P + c * N') * d ≡ (c * P' + N) * d → a + N * d ≡ b + P * d → a + N' * (d * c) ≡ b + P' * (d * c)

@@ -14,9 +14,9 @@ use Rattle.rounding.proofs.Units.{Apart, posPart, negPart, in-units-fin
 use Rattle.rounding.proofs.CommonDenominator.{Reads, reads-as, reads-scale, reads-sub, reads-div, reads-abs, reads-le, reads-value}
 use Rattle.rounding.proofs.Approx.{Approx}
 
--- x is finite and |x - q| ≤ b, with denominators above 0
+-- x is finite and |x - q| ≤ b
 abbrev pub Near : Float → Frac → Frac → Type 0
-Near x q b = T (finite x) × (0 < q .den) × (0 < b .den) × T (leᵠ (absᵠ (valueOf x -ᵠ q)) b)
+Near x q b = T (finite x) × T (leᵠ (absᵠ (valueOf x -ᵠ q)) b)
 
 one-zero : (a b : ℕ) → (a - b ≡ 0) ⊎ (b - a ≡ 0)
 one-zero a b = elim (eq-zero-or-pos (a - b)) [ inl e ↦ inl e | inr h ↦ inr (less h) ]
@@ -34,8 +34,6 @@ approx-near {D} {S} {x} {P} {N} {E} {q} {h} {R} c C a r t k =
     let distance = reads-scale c (reads-abs (one-zero A B) (reads-as (A - B) (B - A) (parts A B) difference)) in
     let bound = reads-div c R 0 C (whole c R) (reads-scale c t) in (
       in-units-finite x (a .whole),
-      r .positive,
-      bound .positive,
       rw (reads-le (mul-pos (a .scale .positive) C) distance bound)
           (le→leb ((A - B + (B - A)) * c + 0) (R + 0 * c) (within (posPart x) (negPart x) (a .near))),
     )
@@ -53,17 +51,17 @@ approx-near {D} {S} {x} {P} {N} {E} {q} {h} {R} c C a r t k =
         go d h = omega (arith, mul-le-mul-right c h)
 
 -- ---- at work: -1.5 is -3 / 2, and 1 / 3 as a float lies within 2 ^ -25 of 1 / 3 and not within 2 ^ -27
-exactly : Near (fin true 3 (negsuc 0)) (record { num = negsuc 2; den = 2 }) 0ᵠ
+exactly : Near (fin true 3 (negsuc 0)) (record { num = negsuc 2; den = 2; above = lit< tt }) 0ᵠ
 unfolding valueOf
-exactly = (tt, lit< tt, lit< tt, tt)
+exactly = (tt, tt)
 
 abbrev 1/3 : Float
 1/3 = div binary32 (fin false 1 (pos 0)) (fin false 3 (pos 0))
 
-third : Near 1/3 (record { num = pos 1; den = 3 }) (record { num = pos 1; den = 2 ^ 25 })
+third : Near 1/3 (record { num = pos 1; den = 3; above = lit< tt }) (record { num = pos 1; den = 2 ^ 25; above = lit< tt })
 unfolding valueOf div
-third = (tt, lit< tt, lit< tt, tt)
+third = (tt, tt)
 
-not-closer : ¬ Near 1/3 (record { num = pos 1; den = 3 }) (record { num = pos 1; den = 2 ^ 27 })
+not-closer : ¬ Near 1/3 (record { num = pos 1; den = 3; above = lit< tt }) (record { num = pos 1; den = 2 ^ 27; above = lit< tt })
 unfolding valueOf div
-not-closer h = h .3
+not-closer h = h .1
