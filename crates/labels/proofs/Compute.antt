@@ -26,8 +26,10 @@ use Rattle.labels.specs.Baseline.{baselineShiftOf, addBaselineShift, res
 use Rattle.labels.specs.Decoration.{extendRun, collectNext, collectDecorationSpans, underOffset, overOffset, throughOffset, thicknessOf}
 use Rattle.labels.specs.Answer.{glyphRowBytes, clusterRowBytes, runBytes, spanRowBytes, chunkRowBytes, answerBody, answerBytes, chunkRowLength, glyphRowOf, clusterRowOf, clusterRowSizeOf, runOf, spanRowOf, spanRowSizeOf, spanPart, chunkRowOf, chunkRowSizeOf, readAnswer}
 use Rattle.labels.specs.Layout.{collapsedClusters, adjustedClusters, resolveClustersPositionsHorizontal, glyphRows, clusterRow, spanRow, spanRows, penAfter, placeChunk, layoutChunk, layoutJob, layoutRows, fitting, layoutOf}
+use Rattle.labels.specs.Transform.{spanSteps, stepsOf, pathSteps, glyphSteps}
+use Rattle.labels.specs.TextForm.{ascii, digits, hexadecimal, line, indexed, clusterLine, runLine, spanLines, chunkLines, textForm, platelist}
 use Rattle.labels.specs.Exact.{exactCluster, formedExactly, adjustSpanExactly, layoutExactly, glyphTotal, clusterSizes, sizeTotal, allowed, NearChunk, NearChunks, NearAnswer}
 
 unfoldable pub computed : Unit {0}
-unfolding flatMap zipWith andThen firstFailing all any every isEmpty findIdx atOr modify scan be bytes signed float floatBytes rows sizes each isZeroBits fontOf glyphOf shiftOf spanOf shiftCount glyphsAt glyphCount spanSize spanFits partsOf textSize spansAt spanCount spanBytes chunkSize chunkFits chunkOf listSize listFits listOf fontCount dxAt dyAt rotateAt chunksAt chunkCount chunkBytes shaped jobOf lead next isBoundary isUtf8 characters startsAt codePointAt codePoint lengthOk versionOk floatOk flaggedOk sizeOk fontOk glyphOk shiftOk spanOk partsOk chunkOk valuesOk textOk ordered spansOk checks checked removed inserted replaceLonger replace insertNext replaceFirst mergeGlyph mergeDone mergeSpan mergeGlyphs joinRun glyphRuns coveredRuns groups unspaced scriptSupportsLetterSpacing wordSeparators isWordSeparatorAt letters tag sumAdvance maxAdvance settled letterSpaced nextLetterSpaced applyLetterSpacing wordSpaced applyWordSpacing placesFrom spacingFactor adjustSpacingOf entries insert logicalOrder firstPlace lastPlace shiftNext resolveRelativeShifts turnShift turnShifts extentNext processAnchor placedFrom positioned formGlyphClusters turned applyWritingMode scaledBy adjustGlyphsOf adjustSpan applyLengthAdjust markedBy marked markRelativeShifts highest bytesLooked spanLooked spansLooked baselineShiftOf addBaselineShift resolveBaselineShift dominantBaselines alignmentBaselines alignmentBaselineShift alignmentOf spanAlignment resolveBaseline extendRun collectNext collectDecorationSpans underOffset overOffset throughOffset thicknessOf glyphRowBytes clusterRowBytes runBytes spanRowBytes chunkRowBytes answerBody answerBytes chunkRowLength glyphRowOf clusterRowOf clusterRowSizeOf runOf spanRowOf spanRowSizeOf spanPart chunkRowOf chunkRowSizeOf readAnswer collapsedClusters adjustedClusters resolveClustersPositionsHorizontal glyphRows clusterRow spanRow spanRows penAfter placeChunk layoutChunk layoutJob layoutRows fitting layoutOf exactCluster formedExactly adjustSpanExactly layoutExactly glyphTotal clusterSizes sizeTotal allowed NearChunk NearChunks NearAnswer valueOf add sub mul div neg lt le eq ne ofInt ofBits toBits
+unfolding flatMap zipWith andThen firstFailing all any every isEmpty findIdx atOr modify scan be bytes signed float floatBytes rows sizes each isZeroBits fontOf glyphOf shiftOf spanOf shiftCount glyphsAt glyphCount spanSize spanFits partsOf textSize spansAt spanCount spanBytes chunkSize chunkFits chunkOf listSize listFits listOf fontCount dxAt dyAt rotateAt chunksAt chunkCount chunkBytes shaped jobOf lead next isBoundary isUtf8 characters startsAt codePointAt codePoint lengthOk versionOk floatOk flaggedOk sizeOk fontOk glyphOk shiftOk spanOk partsOk chunkOk valuesOk textOk ordered spansOk checks checked removed inserted replaceLonger replace insertNext replaceFirst mergeGlyph mergeDone mergeSpan mergeGlyphs joinRun glyphRuns coveredRuns groups unspaced scriptSupportsLetterSpacing wordSeparators isWordSeparatorAt letters tag sumAdvance maxAdvance settled letterSpaced nextLetterSpaced applyLetterSpacing wordSpaced applyWordSpacing placesFrom spacingFactor adjustSpacingOf entries insert logicalOrder firstPlace lastPlace shiftNext resolveRelativeShifts turnShift turnShifts extentNext processAnchor placedFrom positioned formGlyphClusters turned applyWritingMode scaledBy adjustGlyphsOf adjustSpan applyLengthAdjust markedBy marked markRelativeShifts highest bytesLooked spanLooked spansLooked baselineShiftOf addBaselineShift resolveBaselineShift dominantBaselines alignmentBaselines alignmentBaselineShift alignmentOf spanAlignment resolveBaseline extendRun collectNext collectDecorationSpans underOffset overOffset throughOffset thicknessOf glyphRowBytes clusterRowBytes runBytes spanRowBytes chunkRowBytes answerBody answerBytes chunkRowLength glyphRowOf clusterRowOf clusterRowSizeOf runOf spanRowOf spanRowSizeOf spanPart chunkRowOf chunkRowSizeOf readAnswer collapsedClusters adjustedClusters resolveClustersPositionsHorizontal glyphRows clusterRow spanRow spanRows penAfter placeChunk layoutChunk layoutJob layoutRows fitting layoutOf spanSteps stepsOf pathSteps glyphSteps ascii digits hexadecimal line indexed clusterLine runLine spanLines chunkLines textForm platelist exactCluster formedExactly adjustSpanExactly layoutExactly glyphTotal clusterSizes sizeTotal allowed NearChunk NearChunks NearAnswer valueOf add sub mul div neg lt le eq ne ofInt ofBits toBits
 computed = tt

@@ -209,16 +209,17 @@ natural =
           ∷ [];
     }
 
-table : List Case
+unfoldable pub table : List Case
+unfolding P1 P2 P3 P4 P5 P6 P7 P8 P9 natural
 table = P1 ∷ P2 ∷ P3 ∷ P4 ∷ P5 ∷ P6 ∷ P7 ∷ P8 ∷ P9 ∷ natural ∷ []
 
 -- every row of the table holds: of the rows laid out, with their extent, and of the answer's bytes
 rows-right : map (λ (c : Case). laid (labelJob (c .variant))) table ≡ map (λ (c : Case). given (c .extent ∷ [], c .expected)) table
-unfolding computed built shown laid table P1 P2 P3 P4 P5 P6 P7 P8 P9 natural
+unfolding computed built shown laid table
 rows-right = refl
 
 bytes-right : map (λ (c : Case). written (labelJob (c .variant))) table ≡ map (λ (c : Case). given (c .expected)) table
-unfolding computed built shown written table P1 P2 P3 P4 P5 P6 P7 P8 P9 natural
+unfolding computed built shown written table
 bytes-right = refl
 
 -- the label's lines as document 01 prints them, a cluster's first six numbers

@@ -4,6 +4,7 @@ pub mod Seen
 pub mod Jobs
 pub mod Fields
 pub mod Label
+pub mod Printed
 pub mod Traps
 pub mod Looked
 pub mod Refusals

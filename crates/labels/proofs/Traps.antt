@@ -11,6 +11,7 @@ use Rattle.labels.specs.Script.Tag.{tag}
 use Rattle.labels.specs.Decoration.{Run}
 use Rattle.labels.specs.Answer.{GlyphRow, ClusterRow, SpanRow, ChunkRow}
 use Rattle.labels.specs.Layout.{layoutRows}
+use Rattle.labels.specs.Transform.{Step, spanSteps, stepsOf, pathSteps, glyphSteps}
 use Rattle.labels.proofs.Compute.{computed}
 use Rattle.labels.proofs.Seen.{bits, whole, below, -0, shown}
 use Rattle.labels.proofs.Jobs.{Variant, fontRow, fullFont, glyphRow, wideRow, letterRow, fullSpan, fontSpan, spanRow, plainSpan, placedChunk, chunkRow, listsJob, jobRow, plainJob, labelJob, plainVariant, lengthVariant, built}
@@ -356,6 +357,37 @@ upright-rows = refl
 upright-pen : chunksIn penOf upright ≡ (whole 97, whole 143) ∷ []
 unfolding computed built seen upright
 upright-pen = refl
+
+-- ---- what a host does with rows
+
+-- steps as their names' numbers and floats
+stepOf : Step → List ℕ
+stepOf (Step.translate x y) = 0 ∷ bits x ∷ bits y ∷ []
+stepOf (Step.scale x y) = 1 ∷ bits x ∷ bits y ∷ []
+stepOf (Step.rotate a) = 2 ∷ bits a ∷ []
+stepOf (Step.rotateAbout a x y) = 3 ∷ bits a ∷ bits x ∷ bits y ∷ []
+
+-- the two letters above: one lies on its side, the other stands upright and is rotated. Their span is turned about its origin
+upright-steps : map (λ (steps : ClusterRow → List Step). clustersIn (λ (c : ClusterRow). map stepOf (steps c)) upright) (stepsOf ∷ pathSteps ∷ glyphSteps ∷ [])
+    ≡ (((0 ∷ 0 ∷ whole 4 ∷ []) ∷ (0 ∷ 0 ∷ below 3 ∷ []) ∷ []) ∷ ((0 ∷ whole 49 ∷ below 3 ∷ []) ∷ (2 ∷ whole 90 ∷ []) ∷ []) ∷ [])
+    ∷ ([] ∷ ((0 ∷ 0 ∷ whole 4 ∷ []) ∷ (3 ∷ below 90 ∷ whole 5 ∷ below 4 ∷ []) ∷ []) ∷ [])
+    ∷ (((0 ∷ 0 ∷ whole 4 ∷ []) ∷ (0 ∷ 0 ∷ below 3 ∷ []) ∷ []) ∷ ((0 ∷ whole 49 ∷ below 3 ∷ []) ∷ (2 ∷ whole 90 ∷ []) ∷ (0 ∷ 0 ∷ whole 4 ∷ []) ∷ (3 ∷ below 90 ∷ whole 5 ∷ below 4 ∷ []) ∷ []) ∷ [])
+    ∷ []
+unfolding computed built seen upright stepOf
+upright-steps = refl
+
+-- a stretched cluster; and a span, by its writing mode
+stretched-steps : clustersIn (λ (c : ClusterRow). map stepOf (glyphSteps c)) (abcd (spanRow 0 4 0 0 1 (whole 20) 1 [] (letterRow 1 0 1 ∷ []) ∷ []))
+    ≡ ((1 ∷ whole 2 ∷ whole 1 ∷ []) ∷ (0 ∷ 0 ∷ 0 ∷ []) ∷ []) ∷ []
+unfolding computed built seen abcd stepOf
+stretched-steps = refl
+
+span-steps : map (λ (mode : ℕ). spansIn (λ (s : SpanRow). map stepOf (spanSteps mode s)) (letterIn mode 0 0 0 ((1 ∷ bytes 4 0) ∷ []))) (0 ∷ 1 ∷ [])
+    ≡ (((0 ∷ whole 100 ∷ whole 50 ∷ []) ∷ (0 ∷ 0 ∷ whole 2 ∷ []) ∷ []) ∷ [])
+    ∷ (((3 ∷ whole 90 ∷ whole 100 ∷ whole 50 ∷ []) ∷ (0 ∷ whole 100 ∷ whole 50 ∷ []) ∷ (0 ∷ 0 ∷ whole 2 ∷ []) ∷ []) ∷ [])
+    ∷ []
+unfolding computed built seen letterIn stepOf
+span-steps = refl
 
 -- ---- pen and origin
 

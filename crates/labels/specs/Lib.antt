@@ -22,4 +22,6 @@ pub mod Baseline
 pub mod Decoration
 pub mod Answer
 pub mod Layout
+pub mod Transform
+pub mod TextForm
 pub mod Exact
