@@ -4,7 +4,7 @@ use mathlib.Core.Bool.{Bool, not, cond, _&&_}
 use mathlib.Core.List.{List, [], _∷_, _++_, foldl}
 use lib.ListN.{take, drop, set, length}
 use lib.Dec.{leb, ltb, eqb}
-use Rattle.labels.specs.Outcome.{Outcome, refused, given}
+use Rattle.labels.specs.Outcome.{Outcome, refused, given, andThen}
 use Rattle.labels.specs.Lists.{among, findIdx, atOr}
 use Rattle.labels.specs.Job.{Glyph, Span, SpanParts, limits}
 
@@ -28,49 +28,69 @@ removed p n gs = take (p + 1) gs ++ drop (p + 1 + n) gs
 unfoldable pub inserted : ℕ → Glyph → List Glyph → List Glyph
 inserted p g gs = take p gs ++ g ∷ drop p gs
 
--- A span's merge on its way through the span's glyphs: the list, the places replaced in this span, and how many of the next glyphs
--- are still to be inserted unfiltered, with the place for the first of them. Or it was refused.
-pub data Merging : Type 0 where
-  halted : ℕ → Merging
-  merging : List Glyph → List ℕ → ℕ → ℕ → Merging
+-- a span's merge on its way through the span's glyphs
+pub record Merging : Type 0 where
+  -- the list
+  pub list : List Glyph
+  -- the places replaced in this span
+  pub replaced : List ℕ
+  -- how many of the next glyphs are still to be inserted unfiltered
+  pub owed : ℕ
+  -- the place for the first of them
+  pub next : ℕ
 
--- the new glyph is longer: remove its length less 1 glyphs after place p, and put it there; 7 where that passes the end
-unfoldable pub replaceLonger : Glyph → ℕ → List Glyph → List ℕ → Merging
-replaceLonger g p gs positions =
-    cond (leb (p + g .length) (length gs)) (merging (set (removed p (g .length - 1) gs) p g) (p ∷ positions) 0 0) (halted 7)
+-- before a span's first glyph: no place of the list is replaced, and no glyph is to be inserted
+abbrev pub spanBegun : List Glyph → Merging
+spanBegun gs = record { list = gs; replaced = []; owed = 0; next = 0 }
 
--- the new glyph takes place p, where a glyph of cluster length `old` stood. Is it shorter, then up to the old length less 1 of the next follow
-unfoldable pub replace : Glyph → ℕ → ℕ → List Glyph → List ℕ → Merging
-replace g p old gs positions =
-    cond (ltb old (g .length)) (replaceLonger g p gs positions)
-    (merging (set gs p g) (p ∷ positions) (cond (ltb (g .length) old) (old - 1) 0) (p + 1))
+-- The new glyph takes place p, and its cluster length is longer than the old one: that length less 1 glyphs after it are removed. Refused with 7
+-- where that removes a glyph past the end.
+unfoldable pub replaceLonger : Glyph → ℕ → Merging → Outcome Merging
+replaceLonger g p m =
+    cond (leb (p + g .length) (length (m .list)))
+    (given record { list = set (removed p (g .length - 1) (m .list)) p g; replaced = p ∷ m .replaced; owed = 0; next = 0 }) (refused 7)
 
--- one of the next glyphs is inserted at place q; 8 where the list is full
-unfoldable pub insertNext : Glyph → List Glyph → List ℕ → ℕ → ℕ → Merging
-insertNext g gs positions owed q =
-    cond (ltb (length gs) (limits .merged)) (merging (inserted q g gs) positions (owed - 1) (q + 1)) (halted 8)
+-- The new glyph takes place p. If its cluster length is shorter than the old one, up to the old length less 1 of the next glyphs are to be
+-- inserted after it.
+unfoldable pub replace : Glyph → ℕ → Merging → Outcome Merging
+replace g p m =
+    let old = lengthAt (m .list) p in
+    cond (ltb old (g .length)) (replaceLonger g p m)
+    (given record { list = set (m .list) p g; replaced = p ∷ m .replaced; owed = cond (ltb (g .length) old) (old - 1) 0; next = p + 1 })
 
--- a glyph within its span replaces the first of its byte index; it is skipped if there is none, or if that place was replaced already
-unfoldable pub replaceFirst : Span → Glyph → List Glyph → List ℕ → Merging
-replaceFirst s g gs positions =
-    let p = placeOf (g .index) gs in
-    cond (spanContains s (g .index) && ltb p (length gs) && not (among p positions)) (replace g p (lengthAt gs p) gs positions)
-    (merging gs positions 0 0)
+-- The glyph is one of those to be inserted unfiltered. Refused with 8 where the list would pass its limit.
+unfoldable pub insertNext : Glyph → Merging → Outcome Merging
+insertNext g m =
+    cond (ltb (length (m .list)) (limits .merged))
+    (given record { list = inserted (m .next) g (m .list); replaced = m .replaced; owed = m .owed - 1; next = m .next + 1 }) (refused 8)
+
+-- whether a glyph replaces the first of its byte index: it is within its span, there is one, and its place was not already replaced in this span
+abbrev pub mayReplace : Span → Glyph → Merging → Bool
+mayReplace s g m =
+    let p = placeOf (g .index) (m .list) in
+    spanContains s (g .index) && ltb p (length (m .list)) && not (among p (m .replaced))
+
+-- the state behind a glyph that is skipped
+abbrev pub skipped : Merging → Merging
+skipped m = record { list = m .list; replaced = m .replaced; owed = 0; next = 0 }
+
+-- the glyph replaces the first of its byte index, or is skipped
+unfoldable pub replaceFirst : Span → Glyph → Merging → Outcome Merging
+replaceFirst s g m = cond (mayReplace s g m) (replace g (placeOf (g .index) (m .list)) m) (given (skipped m))
 
 -- the next glyph of the span
-unfoldable pub mergeGlyph : Span → Merging → Glyph → Merging
-mergeGlyph s (halted n) g = halted n
-mergeGlyph s (merging gs positions owed q) g = cond (ltb 0 owed) (insertNext g gs positions owed q) (replaceFirst s g gs positions)
+unfoldable pub mergeGlyph : Span → Outcome Merging → Glyph → Outcome Merging
+mergeGlyph s o g = andThen o (λ (m : Merging). cond (ltb 0 (m .owed)) (insertNext g m) (replaceFirst s g m))
 
-unfoldable pub mergeDone : Merging → Outcome (List Glyph)
-mergeDone (halted n) = refused n
-mergeDone (merging gs positions owed q) = given gs
+-- the list behind the span's last glyph
+unfoldable pub mergeDone : Outcome Merging → Outcome (List Glyph)
+mergeDone o = andThen o (λ (m : Merging). given (m .list))
 
 -- the next span: while the list is empty, the span's whole glyph list becomes it
 unfoldable pub mergeSpan : Outcome (List Glyph) → SpanParts → Outcome (List Glyph)
 mergeSpan (refused n) s = refused n
 mergeSpan (given []) s = given (s .glyphs)
-mergeSpan (given (g ∷ gs)) s = mergeDone (foldl (mergeGlyph (s .span)) (merging (g ∷ gs) [] 0 0) (s .glyphs))
+mergeSpan (given (g ∷ gs)) s = mergeDone (foldl (mergeGlyph (s .span)) (given (spanBegun (g ∷ gs))) (s .glyphs))
 
 -- the merged list, or 7 or 8, whichever the merge meets first
 unfoldable pub mergeGlyphs : List SpanParts → Outcome (List Glyph)

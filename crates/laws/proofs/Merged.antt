@@ -1,18 +1,19 @@
 -- The merged list: its glyphs are glyphs of the spans, and there are at most 1,024 of them. Assumes nothing.
 use Prim.Native.Nat.{ℕ, _+_, _-_, _≤_, _<_}
 use mathlib.Core.Path.{_≡_, refl, sym, subst}
-use mathlib.Core.Bool.{Bool, true, false, not, cond, _&&_}
+use mathlib.Core.Bool.{Bool, true, false, cond}
 use mathlib.Core.List.{List, [], _∷_, foldl}
 use native.Mathlib.Omega.{arith}
 use lib.ListN.{length, length-append, length-take, length-drop, length-set}
 use lib.Dec.{leb, ltb, ltb→lt, lit≤, T}
-use Rattle.laws.proofs.All.{all-append, all-take, all-drop, all-set}
+use Rattle.laws.proofs.All.{all-append, all-take, all-drop, all-set, cond-keeps}
+use Rattle.labels.specs.Lists.{All}
+use Rattle.laws.proofs.IfGiven.{IfGiven, of-given, given-then}
 use Rattle.labels.specs.Outcome.{Outcome, refused, given}
-use Rattle.labels.specs.Lists.{among, All}
 use Rattle.labels.specs.declared.Glyph.{Glyph}
 use Rattle.labels.specs.declared.Span.{Span}
 use Rattle.labels.specs.Job.{SpanParts, limits}
-use Rattle.labels.specs.Merge.{spanContains, placeOf, lengthAt, removed, inserted, Merging, halted, merging, replaceLonger, replace, insertNext, replaceFirst, mergeGlyph, mergeDone, mergeSpan, mergeGlyphs}
+use Rattle.labels.specs.Merge.{mayReplace, placeOf, lengthAt, removed, inserted, Merging, spanBegun, replaceLonger, replace, insertNext, replaceFirst, mergeGlyph, mergeDone, mergeSpan, mergeGlyphs}
 
 module _ (P : Glyph → Type 0) where
   -- what the merge keeps of its list
@@ -21,82 +22,71 @@ module _ (P : Glyph → Type 0) where
     pub few : length gs ≤ limits .merged
 
   abbrev Going : Merging → Type 0
-  Going (halted n) = Unit {0}
-  Going (merging gs positions owed q) = Kept gs
+  Going m = Kept (m .list)
 
-  abbrev Done : Outcome (List Glyph) → Type 0
-  Done (refused n) = Unit {0}
-  Done (given gs) = Kept gs
-
-  going-cond : (b : Bool) (m n : Merging) → (b ≡ true → Going m) → (b ≡ false → Going n) → Going (cond b m n)
-  going-cond true m n p q = p refl
-  going-cond false m n p q = q refl
-
-  longer-keeps : (g : Glyph) (p : ℕ) (gs : List Glyph) (positions : List ℕ) → P g → Kept gs → Going (replaceLonger g p gs positions)
+  longer-keeps : (g : Glyph) (p : ℕ) (m : Merging) → P g → Going m → IfGiven Going (replaceLonger g p m)
   unfolding replaceLonger removed
-  longer-keeps g p gs positions h k =
-      going-cond (leb (p + g .length) (length gs)) _ _
-      (λ e. record {
+  longer-keeps g p m h k =
+      cond-keeps (IfGiven Going) (leb (p + g .length) (length (m .list)))
+      record {
         glyphs = all-set p g h (all-append (all-take (p + 1) (k .glyphs)) (all-drop (p + 1 + (g .length - 1)) (k .glyphs)));
         few = simp (length-set, length-append, length-take, length-drop) (omega arith);
-      })
-      (λ e. tt)
+      }
+      tt
 
-  replace-keeps : (g : Glyph) (p old : ℕ) (gs : List Glyph) (positions : List ℕ) → P g → Kept gs → Going (replace g p old gs positions)
+  replace-keeps : (g : Glyph) (p : ℕ) (m : Merging) → P g → Going m → IfGiven Going (replace g p m)
   unfolding replace
-  replace-keeps g p old gs positions h k =
-      going-cond (ltb old (g .length)) _ _ (λ e. longer-keeps g p gs positions h k)
-      (λ e. record { glyphs = all-set p g h (k .glyphs); few = simp length-set (k .few) })
+  replace-keeps g p m h k =
+      cond-keeps (IfGiven Going) (ltb (lengthAt (m .list) p) (g .length)) (longer-keeps g p m h k)
+      record { glyphs = all-set p g h (k .glyphs); few = simp length-set (k .few) }
 
-  insert-keeps : (g : Glyph) (gs : List Glyph) (positions : List ℕ) (owed q : ℕ) → P g → Kept gs → Going (insertNext g gs positions owed q)
+  insert-keeps : (g : Glyph) (m : Merging) → P g → Going m → IfGiven Going (insertNext g m)
   unfolding insertNext inserted
-  insert-keeps g gs positions owed q h k =
-      going-cond (ltb (length gs) (limits .merged)) _ _
-      (λ e. let room : length gs < limits .merged = ltb→lt _ _ (subst T (sym e) tt) in
-      record {
-        glyphs = all-append (all-take q (k .glyphs)) (All.more h (all-drop q (k .glyphs)));
-        few = simp (length-append, length-take, length-drop) (omega arith);
-      })
-      (λ e. tt)
+  insert-keeps g m h k = go (ltb (length (m .list)) (limits .merged)) refl
+    where
+      put : Merging
+      put = record { list = inserted (m .next) g (m .list); replaced = m .replaced; owed = m .owed - 1; next = m .next + 1 }
 
-  first-keeps : (s : Span) (g : Glyph) (gs : List Glyph) (positions : List ℕ) → P g → Kept gs → Going (replaceFirst s g gs positions)
+      go : (b : Bool) → ltb (length (m .list)) (limits .merged) ≡ b → IfGiven Going (cond b (given put) (refused 8))
+      go true e =
+          let room : length (m .list) < limits .merged = ltb→lt _ _ (subst T (sym e) tt) in
+          record {
+            glyphs = all-append (all-take (m .next) (k .glyphs)) (All.more h (all-drop (m .next) (k .glyphs)));
+            few = simp (length-append, length-take, length-drop) (omega arith);
+          }
+      go false e = tt
+
+  first-keeps : (s : Span) (g : Glyph) (m : Merging) → P g → Going m → IfGiven Going (replaceFirst s g m)
   unfolding replaceFirst
-  first-keeps s g gs positions h k =
-      going-cond (spanContains s (g .index) && ltb (placeOf (g .index) gs) (length gs) && not (among (placeOf (g .index) gs) positions)) _ _
-      (λ e. replace-keeps g (placeOf (g .index) gs) (lengthAt gs (placeOf (g .index) gs)) gs positions h k) (λ e. k)
+  first-keeps s g m h k = cond-keeps (IfGiven Going) (mayReplace s g m) (replace-keeps g (placeOf (g .index) (m .list)) m h k) k
 
-  glyph-keeps : (s : Span) (m : Merging) (g : Glyph) → P g → Going m → Going (mergeGlyph s m g)
+  glyph-keeps : (s : Span) (o : Outcome Merging) (g : Glyph) → P g → IfGiven Going o → IfGiven Going (mergeGlyph s o g)
   unfolding mergeGlyph
-  glyph-keeps s (halted n) g h k = tt
-  glyph-keeps s (merging gs positions owed q) g h k =
-      going-cond (ltb 0 owed) _ _ (λ e. insert-keeps g gs positions owed q h k) (λ e. first-keeps s g gs positions h k)
+  glyph-keeps s o g h k =
+      given-then Going Going o _ k (λ m going. cond-keeps (IfGiven Going) (ltb 0 (m .owed)) (insert-keeps g m h going) (first-keeps s g m h going))
 
-  glyphs-keep : (s : Span) (m : Merging) {gs : List Glyph} → All P gs → Going m → Going (foldl (mergeGlyph s) m gs)
-  glyphs-keep s m All.none k = k
-  glyphs-keep s m (All.more {x = g} h hs) k = glyphs-keep s (mergeGlyph s m g) hs (glyph-keeps s m g h k)
+  glyphs-keep : (s : Span) (o : Outcome Merging) {gs : List Glyph} → All P gs → IfGiven Going o → IfGiven Going (foldl (mergeGlyph s) o gs)
+  glyphs-keep s o All.none k = k
+  glyphs-keep s o (All.more {x = g} h hs) k = glyphs-keep s (mergeGlyph s o g) hs (glyph-keeps s o g h k)
 
-  done-keeps : (m : Merging) → Going m → Done (mergeDone m)
+  done-keeps : (o : Outcome Merging) → IfGiven Going o → IfGiven Kept (mergeDone o)
   unfolding mergeDone
-  done-keeps (halted n) k = tt
-  done-keeps (merging gs positions owed q) k = k
+  done-keeps o k = given-then Going Kept o _ k (λ m going. going)
 
   -- a span's own list
   abbrev pub SpanKept : SpanParts → Type 0
   SpanKept p = Kept (p .glyphs)
 
-  span-keeps : (o : Outcome (List Glyph)) (p : SpanParts) → SpanKept p → Done o → Done (mergeSpan o p)
+  span-keeps : (o : Outcome (List Glyph)) (p : SpanParts) → SpanKept p → IfGiven Kept o → IfGiven Kept (mergeSpan o p)
   unfolding mergeSpan
   span-keeps (refused n) p h k = tt
   span-keeps (given []) p h k = h
-  span-keeps (given (g ∷ gs)) p h k = done-keeps _ (glyphs-keep (p .span) (merging (g ∷ gs) [] 0 0) (h .glyphs) k)
+  span-keeps (given (g ∷ gs)) p h k = done-keeps _ (glyphs-keep (p .span) (given (spanBegun (g ∷ gs))) (h .glyphs) k)
 
-  spans-keep : (o : Outcome (List Glyph)) {ps : List SpanParts} → All SpanKept ps → Done o → Done (foldl mergeSpan o ps)
+  spans-keep : (o : Outcome (List Glyph)) {ps : List SpanParts} → All SpanKept ps → IfGiven Kept o → IfGiven Kept (foldl mergeSpan o ps)
   spans-keep o All.none k = k
   spans-keep o (All.more {x = p} h hs) k = spans-keep (mergeSpan o p) hs (span-keeps o p h k)
 
-  given-keeps : (o : Outcome (List Glyph)) (gs : List Glyph) → o ≡ given gs → Done o → Kept gs
-  given-keeps o gs e k = subst Done e k
-
   pub merged-keeps : (ps : List SpanParts) (gs : List Glyph) → All SpanKept ps → mergeGlyphs ps ≡ given gs → Kept gs
   unfolding mergeGlyphs
-  merged-keeps ps gs h e = given-keeps (mergeGlyphs ps) gs e (spans-keep (given []) h (record { glyphs = All.none; few = lit≤ tt }))
+  merged-keeps ps gs h e = of-given Kept (mergeGlyphs ps) gs (spans-keep (given []) h (record { glyphs = All.none; few = lit≤ tt })) e

@@ -1,7 +1,7 @@
 -- A lent buffer of three times the job's bytes is never refused with 10, and neither is one of 167,772 bytes. Assumes nothing.
 use Prim.Native.Nat.{ℕ, _*_, _≤_}
 use mathlib.Core.Path.{_≡_, refl}
-use mathlib.Core.Bool.{Bool, true, cond, not, _&&_}
+use mathlib.Core.Bool.{Bool, true, cond, not}
 use mathlib.Core.List.{List, [], _∷_, foldl}
 use native.Mathlib.Nat.{le-trans}
 use native.Mathlib.Omega.{arith}
@@ -11,14 +11,14 @@ use Rattle.laws.proofs.All.{all-of, fold-keeps, cond-keeps}
 use Rattle.laws.proofs.Outcomes.{first-keeps}
 use Rattle.laws.proofs.AnswerBound.{answer-bound, answer-small}
 use Rattle.labels.specs.Outcome.{Outcome, refused, given, andThen, Check, firstFailing}
-use Rattle.labels.specs.Lists.{all, among, atOr}
+use Rattle.labels.specs.Lists.{all, atOr}
 use Rattle.labels.specs.Single.{+0, isZero}
 use Rattle.labels.specs.declared.Glyph.{Glyph}
 use Rattle.labels.specs.declared.Span.{Span}
 use Rattle.labels.specs.declared.Cluster.{Cluster}
 use Rattle.labels.specs.Job.{Job, Chunk, SpanParts, limits, spansOf, hasLength, adjustSpacingAndGlyphs}
 use Rattle.labels.specs.Check.{checks, checked}
-use Rattle.labels.specs.Merge.{Merging, halted, merging, spanContains, placeOf, replaceLonger, replace, insertNext, replaceFirst, mergeGlyph, mergeDone, mergeSpan, mergeGlyphs}
+use Rattle.labels.specs.Merge.{Merging, spanBegun, mayReplace, replaceLonger, replace, insertNext, replaceFirst, mergeGlyph, mergeDone, mergeSpan, mergeGlyphs}
 use Rattle.labels.specs.LengthAdjust.{widthOf, adjustGlyphsOf, adjustSpan, applyLengthAdjust}
 use Rattle.labels.specs.Answer.{ChunkRow, answerBytes}
 use Rattle.labels.specs.Layout.{adjustedClusters, Progress, beginning, layoutChunk, layoutJob, layoutRows, fitting, layoutOf, numberOf, lengthOf}
@@ -43,32 +43,26 @@ checked-not-10 bs =
     (λ passed. tt)
 
 -- 7 and 8
-abbrev HaltNot10 : Merging → Type 0
-HaltNot10 (halted n) = T (not (eqb n 10))
-HaltNot10 (merging gs positions owed q) = Unit {0}
-
-longer-not-10 : (g : Glyph) (p : ℕ) (gs : List Glyph) (positions : List ℕ) → HaltNot10 (replaceLonger g p gs positions)
+longer-not-10 : (g : Glyph) (p : ℕ) (m : Merging) → Not10 (replaceLonger g p m)
 unfolding replaceLonger
-longer-not-10 g p gs positions = cond-keeps HaltNot10 (leb _ (length gs)) tt tt
+longer-not-10 g p m = cond-keeps Not10 (leb _ (length (m .list))) tt tt
 
-glyph-not-10 : (s : Span) (m : Merging) (g : Glyph) → HaltNot10 m → HaltNot10 (mergeGlyph s m g)
+glyph-not-10 : (s : Span) (o : Outcome Merging) (g : Glyph) → Not10 o → Not10 (mergeGlyph s o g)
 unfolding mergeGlyph insertNext replaceFirst replace
-glyph-not-10 s (halted n) g h = h
-glyph-not-10 s (merging gs positions owed q) g h =
-    cond-keeps HaltNot10 (ltb 0 owed) (cond-keeps HaltNot10 (ltb (length gs) (limits .merged)) tt tt)
-    (cond-keeps HaltNot10 (spanContains s (g .index) && ltb (placeOf (g .index) gs) (length gs) && not (among (placeOf (g .index) gs) positions))
-    (cond-keeps HaltNot10 (ltb _ (g .length)) (longer-not-10 g _ gs positions) tt) tt)
+glyph-not-10 s o g h =
+    then-not-10 o _ h
+    (λ m. cond-keeps Not10 (ltb 0 (m .owed)) (cond-keeps Not10 (ltb (length (m .list)) (limits .merged)) tt tt)
+    (cond-keeps Not10 (mayReplace s g m) (cond-keeps Not10 (ltb _ (g .length)) (longer-not-10 g _ m) tt) tt))
 
-done-not-10 : (m : Merging) → HaltNot10 m → Not10 (mergeDone m)
+done-not-10 : (o : Outcome Merging) → Not10 o → Not10 (mergeDone o)
 unfolding mergeDone
-done-not-10 (halted n) h = h
-done-not-10 (merging gs positions owed q) h = tt
+done-not-10 o h = then-not-10 o _ h (λ m. tt)
 
 span-not-10 : (o : Outcome (List Glyph)) (p : SpanParts) → Not10 o → Not10 (mergeSpan o p)
 unfolding mergeSpan
 span-not-10 (refused n) p h = h
 span-not-10 (given []) p h = tt
-span-not-10 (given (g ∷ gs)) p h = done-not-10 _ (fold-keeps HaltNot10 (mergeGlyph (p .span)) (λ m x k. glyph-not-10 (p .span) m x k) (merging (g ∷ gs) [] 0 0) tt (p .glyphs))
+span-not-10 (given (g ∷ gs)) p h = done-not-10 _ (fold-keeps Not10 (mergeGlyph (p .span)) (glyph-not-10 (p .span)) (given (spanBegun (g ∷ gs))) tt (p .glyphs))
 
 merged-not-10 : (ps : List SpanParts) → Not10 (mergeGlyphs ps)
 unfolding mergeGlyphs

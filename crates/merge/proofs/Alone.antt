@@ -9,7 +9,7 @@ use native.Mathlib.Omega.{arith}
 use lib.ListN.{length, getD, drop, length-map}
 use lib.Seq.{drop-cons}
 use Rattle.laws.proofs.Records.{length-rows}
-use Rattle.labels.specs.Outcome.{given}
+use Rattle.labels.specs.Outcome.{given, andThen}
 use Rattle.labels.specs.Lists.{isEmpty, findIdx, atOr}
 use Rattle.labels.specs.declared.Glyph.{Glyph}
 use Rattle.labels.specs.Job.{SpanParts}
@@ -21,7 +21,7 @@ use Rattle.merge.specs.Source.{hasGlyphs, glyphSpan, spanGlyphs}
 
 -- a span without glyphs leaves the list as it is
 none-more : (gs : List Glyph) (p : SpanParts) → p .glyphs ≡ [] → mergeSpan (given gs) p ≡ given gs
-unfolding mergeSpan mergeDone
+unfolding mergeSpan mergeDone andThen
 none-more [] p e = ap given e
 none-more (g ∷ gs) p e = rw e refl
 

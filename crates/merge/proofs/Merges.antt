@@ -1,7 +1,7 @@
 -- The cases of the definitions' merge of one glyph, given what the code reads and tests: the glyph stands at `row` in the record s, and the
--- list's n glyphs at `rows`. Assumes nothing.
+-- list's glyphs at `rows`. Assumes nothing.
 use Prim.Native.Nat.{ℕ, _+_, _-_, _≤_, _<_}
-use mathlib.Core.Path.{_≡_, sym, _∙_}
+use mathlib.Core.Path.{_≡_, refl, sym, _∙_}
 use mathlib.Core.Bool.{true, false}
 use mathlib.Core.List.{List, _∷_}
 use native.Mathlib.Omega.{arith}
@@ -12,85 +12,101 @@ use Rattle.labels.specs.declared.Glyph.{Glyph}
 use Rattle.labels.specs.declared.Span.{Span}
 use Rattle.labels.specs.Job.{limits}
 use Rattle.labels.specs.Decode.{glyphOf}
-use Rattle.labels.specs.Merge.{halted, merging, inserted, removed, insertNext, replaceLonger, replace, replaceFirst, mergeGlyph, spanContains, placeOf, lengthAt}
-use Rattle.merge.specs.Merged.{glyphsIn}
-use Rattle.merge.specs.Steps.{replacedAt}
+use Rattle.labels.specs.Outcome.{Outcome, refused, given, andThen}
+use Rattle.labels.specs.Merge.{Merging, inserted, removed, skipped, insertNext, replaceLonger, replace, replaceFirst, mergeGlyph, spanContains, placeOf, lengthAt}
+use Rattle.merge.specs.Merged.{placesIn}
+use Rattle.merge.specs.Steps.{mergingAt, mergingOf, stamped, Stands}
+use Rattle.merge.specs.declared.step.Progress.{Progress}
+use Rattle.merge.specs.declared.step.Step.{Step}
+use Rattle.merge.specs.declared.step.Step.the-variants.{Going, Halted}
 use Rattle.merge.proofs.Moved.{glyphs-count}
 use Rattle.merge.proofs.Found.{length-there}
 
-module _ (s rows : List ℕ) (n row : ℕ) (positions : List ℕ) (held : n ≤ length rows) where
+module _ (s rows : List ℕ) (at : Progress) (row : ℕ) (positions : List ℕ) (held : at .count ≤ length rows) where
   abbrev g : Glyph
   g = glyphOf (drop row s)
 
-  abbrev gs : List Glyph
-  gs = glyphsIn s rows n
+  abbrev m : Merging
+  m = mergingAt at s rows positions
 
-  counted : length gs ≡ n
-  counted = glyphs-count s rows n held
+  counted : length (m .list) ≡ at .count
+  counted = glyphs-count s rows (at .count) held
 
-  pub inserts : (owed q : ℕ) → n < limits .merged → insertNext g gs positions owed q ≡ merging (inserted q g gs) positions (owed - 1) (q + 1)
+  pub inserts : at .count < limits .merged
+      → insertNext g m ≡ given record { list = inserted (at .next) g (m .list); replaced = positions; owed = at .owed - 1; next = at .next + 1 }
   unfolding insertNext
-  inserts owed q h = rw (counted, lt-ltb n (limits .merged) h)
+  inserts h = rw (counted, lt-ltb (at .count) (limits .merged) h)
 
-  pub full : (owed q : ℕ) → limits .merged ≤ n → insertNext g gs positions owed q ≡ halted 8
+  pub full : limits .merged ≤ at .count → insertNext g m ≡ refused 8
   unfolding insertNext
-  full owed q h = rw (counted, le-ltb n (limits .merged) h)
+  full h = rw (counted, le-ltb (at .count) (limits .merged) h)
 
   -- the glyph is to take place p, and its cluster length is k + 1
   module _ (p k : ℕ) (k-is : k + 1 ≡ g .length) where
-    pub covers : p + k < n → replaceLonger g p gs positions ≡ merging (set (removed p k gs) p g) (p ∷ positions) 0 0
+    pub covers : p + k < at .count → replaceLonger g p m ≡ given record { list = set (removed p k (m .list)) p g; replaced = p ∷ positions; owed = 0; next = 0 }
     unfolding replaceLonger
     covers h =
         let e : k + 1 - 1 ≡ k = omega arith in
-        rw (counted, ← k-is, le-leb (p + (k + 1)) n (omega arith), e)
+        rw (counted, ← k-is, le-leb (p + (k + 1)) (at .count) (omega arith), e)
 
-    pub past-end : n ≤ p + k → replaceLonger g p gs positions ≡ halted 7
+    pub past-end : at .count ≤ p + k → replaceLonger g p m ≡ refused 7
     unfolding replaceLonger
-    past-end h = rw (counted, ← k-is, lt-leb (p + (k + 1)) n (omega arith))
+    past-end h = rw (counted, ← k-is, lt-leb (p + (k + 1)) (at .count) (omega arith))
 
   -- the glyph is to take place p; its cluster length is `new`, and that of the glyph there is `old`
-  module _ (p new old : ℕ) (new-is : new ≡ g .length) (old-is : old ≡ glyphOf (drop (getD rows p 0) s) .length) (inside : p < n) where
-    there : lengthAt gs p ≡ old
-    there = length-there s rows n p inside held ∙ sym old-is
+  module _ (p new old : ℕ) (new-is : new ≡ g .length) (old-is : old ≡ glyphOf (drop (getD rows p 0) s) .length) (inside : p < at .count) where
+    there : lengthAt (m .list) p ≡ old
+    there = length-there s rows (at .count) p inside held ∙ sym old-is
 
-    pub longer : old < new → replacedAt g p gs positions ≡ replaceLonger g p gs positions
+    pub longer : old < new → replace g p m ≡ replaceLonger g p m
     unfolding replace
     longer h = rw (there, ← new-is, lt-ltb old new h)
 
-    pub shorter : new < old → replacedAt g p gs positions ≡ merging (set gs p g) (p ∷ positions) (old - 1) (p + 1)
+    abbrev put : ℕ → Merging
+    put owed = record { list = set (m .list) p g; replaced = p ∷ positions; owed = owed; next = p + 1 }
+
+    pub shorter : new < old → replace g p m ≡ given (put (old - 1))
     unfolding replace
     shorter h = rw (there, ← new-is, le-ltb old new (omega arith), lt-ltb new old h)
 
-    pub as-long : new ≤ old → old ≤ new → replacedAt g p gs positions ≡ merging (set gs p g) (p ∷ positions) 0 (p + 1)
+    pub as-long : new ≤ old → old ≤ new → replace g p m ≡ given (put 0)
     unfolding replace
     as-long h l = rw (there, ← new-is, le-ltb old new h, le-ltb new old l)
 
   -- its byte index is `index`
   module _ (span : Span) (index : ℕ) (index-is : index ≡ g .index) where
-    pub outside : spanContains span index ≡ false → replaceFirst span g gs positions ≡ merging gs positions 0 0
+    pub outside : spanContains span index ≡ false → replaceFirst span g m ≡ given (skipped m)
     unfolding replaceFirst
     outside e = rw (← index-is, e)
 
     -- the span covers it, and the first glyph of that byte index stands at place p
-    module _ (e : spanContains span index ≡ true) (p : ℕ) (p-is : p ≡ placeOf index gs) where
-      pub missing : n ≤ p → replaceFirst span g gs positions ≡ merging gs positions 0 0
+    module _ (e : spanContains span index ≡ true) (p : ℕ) (p-is : p ≡ placeOf index (m .list)) where
+      pub missing : at .count ≤ p → replaceFirst span g m ≡ given (skipped m)
       unfolding replaceFirst
-      missing h = rw (← index-is, e, counted, ← p-is, le-ltb p n h)
+      missing h = rw (← index-is, e, counted, ← p-is, le-ltb p (at .count) h)
 
-      pub replaced : p < n → among p positions ≡ true → replaceFirst span g gs positions ≡ merging gs positions 0 0
+      pub replaced : p < at .count → among p positions ≡ true → replaceFirst span g m ≡ given (skipped m)
       unfolding replaceFirst
-      replaced h a = rw (← index-is, e, counted, ← p-is, lt-ltb p n h, a)
+      replaced h a = rw (← index-is, e, counted, ← p-is, lt-ltb p (at .count) h, a)
 
-      pub replaces : p < n → among p positions ≡ false → replaceFirst span g gs positions ≡ replacedAt g p gs positions
+      pub replaces : p < at .count → among p positions ≡ false → replaceFirst span g m ≡ replace g p m
       unfolding replaceFirst
-      replaces h a = rw (← index-is, e, counted, ← p-is, lt-ltb p n h, a)
+      replaces h a = rw (← index-is, e, counted, ← p-is, lt-ltb p (at .count) h, a)
 
   -- ---- the next glyph
 
-  pub glyph-owed : (span : Span) (owed q : ℕ) → 0 < owed → mergeGlyph span (merging gs positions owed q) g ≡ insertNext g gs positions owed q
-  unfolding mergeGlyph
-  glyph-owed span owed q h = rw (lt-ltb 0 owed h)
+  pub glyph-owed : (span : Span) → 0 < at .owed → mergeGlyph span (given m) g ≡ insertNext g m
+  unfolding mergeGlyph andThen
+  glyph-owed span h = rw (lt-ltb 0 (at .owed) h)
 
-  pub glyph-free : (span : Span) (owed q : ℕ) → owed ≤ 0 → mergeGlyph span (merging gs positions owed q) g ≡ replaceFirst span g gs positions
-  unfolding mergeGlyph
-  glyph-free span owed q h = rw (le-ltb 0 owed h)
+  pub glyph-free : (span : Span) → at .owed ≤ 0 → mergeGlyph span (given m) g ≡ replaceFirst span g m
+  unfolding mergeGlyph andThen
+  glyph-free span h = rw (le-ltb 0 (at .owed) h)
+
+-- ---- a step is the outcome o, and the marks are those of the places that it remembers
+
+pub stood : {s rows marks₀ marks : List ℕ} {stamp : ℕ} {o : Outcome Merging} (r : Step) (positions : List ℕ) → marks ≡ stamped stamp positions marks₀ → mergingOf r s rows positions ≡ o
+    → Stands r s rows stamp marks₀ marks o
+unfolding mergingOf placesIn
+stood (Going at) positions known e = rw (← e) record { marked = known; is = refl }
+stood (Halted k) positions known e = rw (← e) record { marked = tt; is = refl }

@@ -10,7 +10,7 @@ use lib.Seq.{getD-set-other}
 use borrow.Author.Tests.{eqb-true, eqb-false, ltb-true, ltb-false}
 use Rattle.labels.specs.declared.Glyph.{Glyph}
 use Rattle.labels.specs.Decode.{glyphOf}
-use Rattle.labels.specs.Merge.{placeOf}
+use Rattle.labels.specs.Merge.{Merging, placeOf}
 use Rattle.merge.specs.Merged.{glyphsIn}
 use Rattle.merge.specs.Steps.{bucketOf, NoLater, lowered}
 use Rattle.merge.proofs.Shifted.{After}
@@ -57,9 +57,15 @@ module _ (s rows : List ℕ) (n : ℕ) where
   pub firsts-done : (firsts : List ℕ) → NoLaterFrom 0 firsts → NoLater 0 firsts (glyphsIn s rows n)
   firsts-done firsts known b = omega (arith, place-start s rows n b, known b)
 
--- ---- a step took the list gs to gs₁; was a glyph inserted, then g at place q
+-- ---- the merge of g into the list of a state m left the list gs₁
 
-module _ (gs gs₁ : List Glyph) (g : Glyph) (q : ℕ) (after : After gs g q gs₁) (firsts : List ℕ) (slack : ℕ) (known : NoLater slack firsts gs) where
+module _ (m : Merging) (g : Glyph) (gs₁ : List Glyph) (after : After m g gs₁) (firsts : List ℕ) (slack : ℕ) (known : NoLater slack firsts (m .list)) where
+  abbrev gs : List Glyph
+  gs = m .list
+
+  abbrev q : ℕ
+  q = m .next
+
   lowers : length gs < length gs₁ → NoLater (slack + 1) (lowered firsts (g .index) q) gs₁
   lowers h b = go (eqb (bucketOf (g .index)) (bucketOf b)) refl
     where

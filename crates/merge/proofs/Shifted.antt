@@ -2,18 +2,21 @@
 -- earlier by no more than what is removed, and are no earlier after an insertion, but for the glyph's own. Assumes nothing.
 use Prim.Native.Nat.{ℕ, zero, suc, _+_, _-_, _≤_, _<_, min}
 use mathlib.Core.Path.{_≡_, refl}
-use mathlib.Core.Bool.{Bool, true, false, cond, not, _&&_}
+use mathlib.Core.Bool.{Bool, true, false}
 use mathlib.Core.List.{List, [], _∷_}
 use native.Mathlib.Omega.{arith}
 use lib.Dec.{eqb, leb, ltb}
 use lib.ListN.{length, drop, set, length-append, length-take, length-drop, length-set}
 use lib.Seq.{take-nil, drop-nil}
 use borrow.Author.Tests.{eqb-true, ne-eqb}
-use Rattle.labels.specs.Lists.{findIdx, among}
+use Rattle.laws.proofs.All.{cond-keeps}
+use Rattle.laws.proofs.IfGiven.{IfGiven}
+use Rattle.labels.specs.Outcome.{Outcome, given, andThen}
+use Rattle.labels.specs.Lists.{findIdx}
 use Rattle.labels.specs.Job.{limits}
 use Rattle.labels.specs.declared.Glyph.{Glyph}
 use Rattle.labels.specs.declared.Span.{Span}
-use Rattle.labels.specs.Merge.{Merging, halted, merging, inserted, removed, insertNext, replaceLonger, replace, replaceFirst, mergeGlyph, placeOf, lengthAt, spanContains}
+use Rattle.labels.specs.Merge.{Merging, inserted, removed, mayReplace, insertNext, replaceLonger, replace, replaceFirst, mergeGlyph, placeOf, lengthAt}
 
 -- a glyph takes the place of the first of its byte index
 place-set : (g : Glyph) (b : ℕ) (gs : List Glyph) → placeOf b (set gs (placeOf (g .index) gs) g) ≡ placeOf b gs
@@ -118,14 +121,17 @@ module _ (g : Glyph) where
       go true e on = rw e (omega arith)
       go false e on = rw e (omega arith)
 
--- ---- the merge of g into gs
+-- ---- the merge of g into the list of a state m
 
-module _ (gs : List Glyph) (g : Glyph) (q : ℕ) where
-  -- gs₁ is the list after it; was g inserted, then at place q
+module _ (m : Merging) (g : Glyph) where
+  abbrev gs : List Glyph
+  gs = m .list
+
+  -- gs₁ is the list after it; was g inserted, then at the state's place
   pub record After (gs₁ : List Glyph) : Type 0 where
     pub shorter : length gs₁ ≤ length gs → (b : ℕ) → placeOf b gs ≤ placeOf b gs₁ + (length gs - length gs₁)
     pub other : length gs < length gs₁ → (b : ℕ) → (g .index ≡ b → ⊥) → placeOf b gs ≤ placeOf b gs₁
-    pub own : length gs < length gs₁ → min (placeOf (g .index) gs) q ≤ placeOf (g .index) gs₁
+    pub own : length gs < length gs₁ → min (placeOf (g .index) gs) (m .next) ≤ placeOf (g .index) gs₁
 
   no-longer : (gs₁ : List Glyph) → length gs₁ ≤ length gs → ((b : ℕ) → placeOf b gs ≤ placeOf b gs₁ + (length gs - length gs₁)) → After gs₁
   no-longer gs₁ h places = record {
@@ -134,55 +140,42 @@ module _ (gs : List Glyph) (g : Glyph) (q : ℕ) where
     own = λ k. absurd (omega arith);
   }
 
-  abbrev pub Followed : Merging → Type 0
-  Followed (halted k) = Unit {0}
-  Followed (merging gs₁ positions owed next) = After gs₁
+  abbrev pub Followed : Outcome Merging → Type 0
+  Followed = IfGiven (λ (m₁ : Merging). After (m₁ .list))
 
-  either : (t : Bool) (m₁ m₂ : Merging) → Followed m₁ → Followed m₂ → Followed (cond t m₁ m₂)
-  either true m₁ m₂ f₁ f₂ = f₁
-  either false m₁ m₂ f₁ f₂ = f₂
+  inserts : Followed (insertNext g m)
+  unfolding insertNext
+  inserts =
+      cond-keeps Followed (ltb (length gs) (limits .merged))
+      record {
+        shorter = λ h. absurd (omega (arith, inserted-length g (m .next) gs, h));
+        other = λ h b n. place-other g b (m .next) gs n;
+        own = λ h. place-own g (m .next) gs;
+      }
+      tt
 
-  module _ (positions : List ℕ) where
-    inserts : (owed : ℕ) → Followed (insertNext g gs positions owed q)
-    unfolding insertNext
-    inserts owed =
-        either (ltb (length gs) (limits .merged)) (merging (inserted q g gs) positions (owed - 1) (q + 1)) (halted 8)
-        record {
-          shorter = λ h. absurd (omega (arith, inserted-length g q gs, h));
-          other = λ h b n. place-other g b q gs n;
-          own = λ h. place-own g q gs;
-        }
-        tt
+  abbrev p : ℕ
+  p = placeOf (g .index) gs
 
-    abbrev p : ℕ
-    p = placeOf (g .index) gs
+  replaces-longer : Followed (replaceLonger g p m)
+  unfolding replaceLonger
+  replaces-longer =
+      let k = g .length - 1 in
+      cond-keeps Followed (leb (p + g .length) (length gs))
+      (no-longer (set (removed p k gs) p g) (simp length-set (removed-length p k gs))
+      (λ b. simp length-set (omega (arith, place-removed-set g b k gs, place-removed b p k gs))))
+      tt
 
-    replaces-longer : Followed (replaceLonger g p gs positions)
-    unfolding replaceLonger
-    replaces-longer =
-        let k = g .length - 1 in
-        either (leb (p + g .length) (length gs)) (merging (set (removed p k gs) p g) (p ∷ positions) 0 0) (halted 7)
-        (no-longer (set (removed p k gs) p g) (simp length-set (removed-length p k gs))
-        (λ b. simp length-set (omega (arith, place-removed-set g b k gs, place-removed b p k gs))))
-        tt
+  replaces : Followed (replace g p m)
+  unfolding replace
+  replaces =
+      cond-keeps Followed (ltb (lengthAt gs p) (g .length)) replaces-longer
+      (no-longer (set gs p g) (simp length-set (omega arith)) (λ b. omega (arith, place-set g b gs)))
 
-    replaces : (old : ℕ) → Followed (replace g p old gs positions)
-    unfolding replace
-    replaces old =
-        either (ltb old (g .length)) (replaceLonger g p gs positions)
-        (merging (set gs p g) (p ∷ positions) (cond (ltb (g .length) old) (old - 1) 0) (p + 1))
-        replaces-longer
-        (no-longer (set gs p g) (simp length-set (omega arith)) (λ b. omega (arith, place-set g b gs)))
+  replaces-first : (span : Span) → Followed (replaceFirst span g m)
+  unfolding replaceFirst
+  replaces-first span = cond-keeps Followed (mayReplace span g m) replaces (no-longer gs (omega arith) (λ b. omega arith))
 
-    replaces-first : (span : Span) → Followed (replaceFirst span g gs positions)
-    unfolding replaceFirst
-    replaces-first span =
-        either (spanContains span (g .index) && ltb p (length gs) && not (among p positions)) (replace g p (lengthAt gs p) gs positions)
-        (merging gs positions 0 0)
-        (replaces (lengthAt gs p))
-        (no-longer gs (omega arith) (λ b. omega arith))
-
-    pub followed : (span : Span) (owed : ℕ) → Followed (mergeGlyph span (merging gs positions owed q) g)
-    unfolding mergeGlyph
-    followed span owed =
-        either (ltb 0 owed) (insertNext g gs positions owed q) (replaceFirst span g gs positions) (inserts owed) (replaces-first span)
+  pub followed : (span : Span) → Followed (mergeGlyph span (given m) g)
+  unfolding mergeGlyph andThen
+  followed span = cond-keeps Followed (ltb 0 (m .owed)) inserts (replaces-first span)

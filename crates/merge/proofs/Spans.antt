@@ -12,13 +12,13 @@ use Rattle.labels.specs.Bytes.{rows as records}
 use Rattle.labels.specs.declared.Glyph.{Glyph}
 use Rattle.labels.specs.Job.{SpanParts, limits}
 use Rattle.labels.specs.Decode.{glyphOf, glyphBytes, glyphsAt, glyphCount, spanOf, partsOf}
-use Rattle.labels.specs.Merge.{merging, mergeGlyph, mergeDone, mergeSpan, mergeGlyphs}
+use Rattle.labels.specs.Merge.{Merging, spanBegun, mergeGlyph, mergeDone, mergeSpan, mergeGlyphs}
 use Rattle.laws.proofs.All.{first, rest}
 use Rattle.labels.specs.Lists.{All}
 use Rattle.laws.proofs.Records.{length-rows}
 use Rattle.job_rows.specs.Rows.{partsIn}
 use Rattle.job_rows.specs.Rows as lookup
-use Rattle.merge.specs.Merged.{glyphsIn, FewGlyphs}
+use Rattle.merge.specs.Merged.{glyphsIn, placesIn, spanPlaces, FewGlyphs}
 use Rattle.merge.proofs.Moved.{glyphs-count}
 
 -- a span stands at p, and `row` is what follows there; its glyph count stands k bytes on, and is n
@@ -37,20 +37,27 @@ module _ (s : List ℕ) (parts : SpanParts) (first n : ℕ) (own : records (λ b
   pub own-few : FewGlyphs parts → n ≤ limits .glyphs
   own-few h = rw (← own, length-rows) at h
 
-  module _ (rows : List ℕ) (count : ℕ) where
-    more : (gs : List Glyph) → 0 < length gs → mergeSpan (given gs) parts ≡ mergeDone (foldl (mergeGlyph (parts .span)) (merging gs [] 0 0) (parts .glyphs))
-    unfolding mergeSpan
-    more [] h = absurd (not-suc-le-zero h)
-    more (g ∷ gs) h = refl
+  -- which is not empty
+  module _ (rows : List ℕ) (count : ℕ) (some : 0 < count) (held : count ≤ length rows) where
+    abbrev merged : Outcome Merging
+    merged = foldl (mergeGlyph (parts .span)) (given (spanBegun (glyphsIn s rows count))) (records (λ b. glyphBytes) glyphOf n (drop first s))
 
-    pub span-more : 0 < count → count ≤ length rows
-        → mergeSpan (given (glyphsIn s rows count)) parts ≡ mergeDone (foldl (mergeGlyph (parts .span)) (merging (glyphsIn s rows count) [] 0 0) (records (λ b. glyphBytes) glyphOf n (drop first s)))
-    span-more h held = rw own (more (glyphsIn s rows count) (rw (glyphs-count s rows count held) h))
+    more : (gs : List Glyph) → 0 < length gs → (P : List ℕ → Outcome (List Glyph) → Type 0)
+        → (let o = foldl (mergeGlyph (parts .span)) (given (spanBegun gs)) (parts .glyphs) in P (placesIn o) (mergeDone o))
+        → P (spanPlaces gs parts) (mergeSpan (given gs) parts)
+    unfolding mergeSpan spanPlaces
+    more [] h P p = absurd (not-suc-le-zero h)
+    more (g ∷ gs) h P p = p
+
+    pub span-more : (P : List ℕ → Outcome (List Glyph) → Type 0) → P (placesIn merged) (mergeDone merged)
+        → P (spanPlaces (glyphsIn s rows count) parts) (mergeSpan (given (glyphsIn s rows count)) parts)
+    span-more P p = more (glyphsIn s rows count) (rw (glyphs-count s rows count held) some) P (rw own at p)
 
 -- an empty list becomes the span's own
-pub span-first : (s : List ℕ) (parts : SpanParts) (rows : List ℕ) (count : ℕ) → count ≡ 0 → mergeSpan (given (glyphsIn s rows count)) parts ≡ given (parts .glyphs)
-unfolding mergeSpan glyphsIn lookup.glyphsAt
-span-first s parts rows count e = rw e
+pub span-first : (s : List ℕ) (parts : SpanParts) (rows : List ℕ) (count : ℕ) → count ≡ 0 → (P : List ℕ → Outcome (List Glyph) → Type 0) → P [] (given (parts .glyphs))
+    → P (spanPlaces (glyphsIn s rows count) parts) (mergeSpan (given (glyphsIn s rows count)) parts)
+unfolding mergeSpan spanPlaces glyphsIn lookup.glyphsAt
+span-first s parts rows count e P p = rw e p
 
 pub own-span : (bs : List ℕ) → spanOf bs ≡ partsOf bs .span
 unfolding partsOf

@@ -1,65 +1,91 @@
 -- One turn and the end of the loop over a span's glyphs, and of that over a chunk's spans. Assumes nothing.
 use Prim.Native.Nat.{ℕ, _+_, _-_, _≤_, _<_}
-use mathlib.Core.Path.{_≡_, refl, sym, ap, _∙_}
+use mathlib.Core.Path.{_≡_, refl, sym, _∙_}
 use mathlib.Core.List.{List, [], _∷_, foldl}
 use lib.ListN.{drop}
 use lib.Seq.{drop-drop}
-use Rattle.labels.specs.Outcome.{refused, given}
+use Rattle.laws.proofs.IfGiven.{IfGiven, of-given}
+use Rattle.labels.specs.Outcome.{Outcome, refused, given, andThen}
 use Rattle.labels.specs.Bytes.{rows as records}
 use Rattle.labels.specs.declared.Glyph.{Glyph}
 use Rattle.labels.specs.declared.Span.{Span}
 use Rattle.labels.specs.Decode.{glyphOf, glyphBytes}
-use Rattle.labels.specs.Merge.{Merging, halted, merging, mergeGlyph, mergeDone}
+use Rattle.labels.specs.Merge.{Merging, mergeGlyph, mergeDone}
 use Rattle.job_rows.proofs.Walks.{rows-turn, rows-done}
-use Rattle.merge.specs.Merged.{glyphsIn}
-use Rattle.merge.specs.Steps.{mergingOf, Marked, Stands}
+use Rattle.merge.specs.Merged.{glyphsIn, mergedOf, placesIn}
+use Rattle.merge.specs.Steps.{mergingAt, mergingOf, stamped, Stands}
+use Rattle.merge.specs.declared.Merge.{Merge}
+use Rattle.merge.specs.declared.Merge.the-variants as M
 use Rattle.merge.specs.declared.step.Progress.{Progress}
 use Rattle.merge.specs.declared.step.Step.{Step}
 use Rattle.merge.specs.declared.step.Step.the-variants.{Going, Halted}
-use Rattle.merge.proofs.Shifted.{After, Followed, followed}
+use Rattle.merge.proofs.Shifted.{After, followed}
 
-pub fold-halted : (span : Span) (k : ℕ) (gs : List Glyph) → foldl (mergeGlyph span) (halted k) gs ≡ halted k
-unfolding mergeGlyph
-fold-halted span k [] = refl
-fold-halted span k (g ∷ gs) = fold-halted span k gs
+fold-refused : (span : Span) (k : ℕ) (gs : List Glyph) → foldl (mergeGlyph span) (refused k) gs ≡ refused k
+unfolding mergeGlyph andThen
+fold-refused span k [] = refl
+fold-refused span k (g ∷ gs) = fold-refused span k gs
 
-module _ (s : List ℕ) (span : Span) (stamp : ℕ) (whole : Merging) where
+-- what a span's merge leaves
+module _ (s rows marks₀ marks : List ℕ) (stamp : ℕ) (whole : Outcome Merging) where
+  pub record Ends (r : Merge) : Type 0 where
+    pub marked : IfGiven (λ (gs : List Glyph). marks ≡ stamped stamp (placesIn whole) marks₀) (mergeDone whole)
+    pub is : mergedOf r s rows ≡ mergeDone whole
+
+  ends-refused : (k : ℕ) → refused k ≡ whole → Ends (M.Refused k)
+  unfolding mergedOf mergeDone andThen
+  ends-refused k e = rw (← e) record { marked = tt; is = refl }
+
+  ends-given : (at : Progress) (positions : List ℕ) → marks ≡ stamped stamp positions marks₀ → given (mergingAt at s rows positions) ≡ whole → Ends (M.Merged (at .count))
+  unfolding mergedOf mergeDone andThen placesIn
+  ends-given at positions known e = rw (← e) record { marked = known; is = refl }
+
+module _ (s : List ℕ) (span : Span) (stamp : ℕ) (marks₀ : List ℕ) (whole : Outcome Merging) where
   -- the n glyphs from `row` on, merged into what is there now, give `whole`
-  pub record Left (rows marks : List ℕ) (count owed q row n : ℕ) : Type 0 where
+  pub record Left (rows marks : List ℕ) (at : Progress) (row n : ℕ) : Type 0 where
     pub positions : List ℕ
-    pub marked : Marked stamp marks positions
-    pub rest : foldl (mergeGlyph span) (merging (glyphsIn s rows count) positions owed q) (records (λ b. glyphBytes) glyphOf n (drop row s)) ≡ whole
+    pub marked : marks ≡ stamped stamp positions marks₀
+    pub rest : foldl (mergeGlyph span) (given (mergingAt at s rows positions)) (records (λ b. glyphBytes) glyphOf n (drop row s)) ≡ whole
 
   -- the merge of the glyph at `row` gave r
-  module _ (rows rows₁ marks marks₁ : List ℕ) (at : Progress) (row n : ℕ) (r : Step) (l : Left rows marks (at .count) (at .owed) (at .next) row n) (h : 0 < n)
-      (did : (positions : List ℕ) → Marked stamp marks positions → Stands r s rows₁ stamp marks₁ (mergeGlyph span (merging (glyphsIn s rows (at .count)) positions (at .owed) (at .next)) (glyphOf (drop row s)))) where
-    next : foldl (mergeGlyph span) (mergingOf r s rows₁ (did (l .positions) (l .marked) .positions)) (records (λ b. glyphBytes) glyphOf (n - 1) (drop (row + glyphBytes) s)) ≡ whole
-    next =
-        rw (did (l .positions) (l .marked) .is, ← drop-drop glyphBytes row s)
-        (rw (rows-turn (λ b. glyphBytes) glyphOf n (drop row s) h) at (l .rest))
+  pub record Turn (rows rows₁ marks marks₁ : List ℕ) (at : Progress) (row n : ℕ) (r : Step) : Type 0 where
+    pub left : Left rows marks at row n
+    pub some : 0 < n
+    pub did : Stands r s rows₁ stamp marks₀ marks₁ (mergeGlyph span (given (mergingAt at s rows (left .positions))) (glyphOf (drop row s)))
 
-    pub left-on : (at₁ : Progress) → r ≡ Going at₁ → Left rows₁ marks₁ (at₁ .count) (at₁ .owed) (at₁ .next) (row + glyphBytes) (n - 1)
-    unfolding mergingOf
-    left-on at₁ e = record {
-      positions = did (l .positions) (l .marked) .positions;
-      marked = did (l .positions) (l .marked) .marked;
-      rest = rw e at next;
-    }
+  pub left-done : (rows marks : List ℕ) (at : Progress) (row n : ℕ) → Left rows marks at row n → n ≤ 0 → Ends s rows marks₀ marks stamp whole (M.Merged (at .count))
+  left-done rows marks at row n l h =
+      ends-given s rows marks₀ marks stamp whole at (l .positions) (l .marked) (rw (rows-done (λ b. glyphBytes) glyphOf n (drop row s) h) at (l .rest))
 
-    pub step-after : (at₁ : Progress) → r ≡ Going at₁ → After (glyphsIn s rows (at .count)) (glyphOf (drop row s)) (at .next) (glyphsIn s rows₁ (at₁ .count))
-    unfolding mergingOf
-    step-after at₁ e =
-        let gs : List Glyph = glyphsIn s rows (at .count) in
-        let stood : Followed gs (glyphOf (drop row s)) (at .next) (mergingOf r s rows₁ (did (l .positions) (l .marked) .positions)) =
-        rw (did (l .positions) (l .marked) .is) (followed gs (glyphOf (drop row s)) (at .next) (l .positions) span (at .owed)) in
-        rw e at stood
+module _ {s : List ℕ} {span : Span} {stamp : ℕ} {marks₀ : List ℕ} {whole : Outcome Merging} {rows rows₁ marks marks₁ : List ℕ} {at : Progress} {row n : ℕ} {r : Step}
+    (t : Turn s span stamp marks₀ whole rows rows₁ marks marks₁ at row n r) where
+  abbrev m : Merging
+  m = mergingAt at s rows (t .left .positions)
 
-    pub left-halted : (k : ℕ) → r ≡ Halted k → refused k ≡ mergeDone whole
-    unfolding mergingOf mergeDone
-    left-halted k e =
-        let left : List Glyph = records (λ b. glyphBytes) glyphOf (n - 1) (drop (row + glyphBytes) s) in
-        ap mergeDone (sym (fold-halted span k left) ∙ (rw e at next))
+  abbrev o : Outcome Merging
+  o = mergeGlyph span (given m) (glyphOf (drop row s))
 
-  pub left-done : (rows marks : List ℕ) (count owed q row n : ℕ) → Left rows marks count owed q row n → n ≤ 0 → given (glyphsIn s rows count) ≡ mergeDone whole
-  unfolding mergeDone
-  left-done rows marks count owed q row n l h = ap mergeDone (rw (rows-done (λ b. glyphBytes) glyphOf n (drop row s) h) at (l .rest))
+  next : foldl (mergeGlyph span) (mergingOf r s rows₁ (placesIn o)) (records (λ b. glyphBytes) glyphOf (n - 1) (drop (row + glyphBytes) s)) ≡ whole
+  next = rw (t .did .is, ← drop-drop glyphBytes row s) (rw (rows-turn (λ b. glyphBytes) glyphOf n (drop row s) (t .some)) at (t .left .rest))
+
+  -- what holds of the outcome holds of the code's state
+  given-at : (P : Merging → Type 0) (at₁ : Progress) → r ≡ Going at₁ → IfGiven P o → P (mergingAt at₁ s rows₁ (placesIn o))
+  unfolding mergingOf
+  given-at P at₁ e k = of-given P o (mergingAt at₁ s rows₁ (placesIn o)) k (sym (rw e at (t .did .is)))
+
+  pub left-on : (at₁ : Progress) → r ≡ Going at₁ → Left s span stamp marks₀ whole rows₁ marks₁ at₁ (row + glyphBytes) (n - 1)
+  unfolding mergingOf
+  left-on at₁ e = record {
+    positions = placesIn o;
+    marked = given-at (λ (m₁ : Merging). marks₁ ≡ stamped stamp (m₁ .replaced) marks₀) at₁ e (t .did .marked);
+    rest = rw e at next;
+  }
+
+  pub step-after : (at₁ : Progress) → r ≡ Going at₁ → After m (glyphOf (drop row s)) (glyphsIn s rows₁ (at₁ .count))
+  step-after at₁ e = given-at (λ (m₁ : Merging). After m (glyphOf (drop row s)) (m₁ .list)) at₁ e (followed m (glyphOf (drop row s)) span)
+
+  pub left-halted : (k : ℕ) → r ≡ Halted k → Ends s rows₁ marks₀ marks₁ stamp whole (M.Refused k)
+  unfolding mergingOf
+  left-halted k e =
+      ends-refused s rows₁ marks₀ marks₁ stamp whole k
+      (sym (fold-refused span k (records (λ b. glyphBytes) glyphOf (n - 1) (drop (row + glyphBytes) s))) ∙ (rw e at next))

@@ -1,7 +1,7 @@
 -- The merged list as the code holds it, and the answer to a chunk's merge. Definitions only.
 use Prim.Native.Nat.{ℕ, _≤_, _<_}
 use mathlib.Core.Path.{_≡_}
-use mathlib.Core.List.{List, [], foldl}
+use mathlib.Core.List.{List, [], _∷_, foldl}
 use lib.ListN.{length, drop}
 use Rattle.labels.specs.Lists.{All}
 use Rattle.job_rows.specs.Rows.{partsIn}
@@ -12,7 +12,7 @@ use Rattle.labels.specs.declared.Glyph.{Glyph}
 use Rattle.labels.specs.declared.Span.{Span}
 use Rattle.labels.specs.Job.{SpanParts, limits}
 use Rattle.labels.specs.Decode.{glyphOf, glyphBytes}
-use Rattle.labels.specs.Merge.{merging, mergeGlyph, mergeDone}
+use Rattle.labels.specs.Merge.{Merging, spanBegun, mergeGlyph}
 use Rattle.merge.specs.declared.Merge.{Merge}
 use Rattle.merge.specs.declared.Merge.the-variants as M
 
@@ -22,9 +22,19 @@ mergedOf (M.Merged n) s rows = given (glyphsIn s rows n)
 mergedOf (M.Refused k) s rows = refused k
 
 -- the span's n glyphs that stand in the record s from `first` on, merged into the list gs
-abbrev pub mergedInto : List Glyph → Span → List ℕ → ℕ → ℕ → Outcome (List Glyph)
+abbrev pub mergedInto : List Glyph → Span → List ℕ → ℕ → ℕ → Outcome Merging
 mergedInto gs span s first n =
-    mergeDone (foldl (mergeGlyph span) (merging gs [] 0 0) (records (λ b. glyphBytes) glyphOf n (drop first s)))
+    foldl (mergeGlyph span) (given (spanBegun gs)) (records (λ b. glyphBytes) glyphOf n (drop first s))
+
+-- the places replaced, where the merge was not refused
+unfoldable pub placesIn : Outcome Merging → List ℕ
+placesIn (refused k) = []
+placesIn (given m) = m .replaced
+
+-- the places of the list that a span replaces; none where the span's own list becomes it
+unfoldable pub spanPlaces : List Glyph → SpanParts → List ℕ
+spanPlaces [] p = []
+spanPlaces (g ∷ gs) p = placesIn (foldl (mergeGlyph (p .span)) (given (spanBegun (g ∷ gs))) (p .glyphs))
 
 -- the list is no longer than its limit; a refusal has a number
 abbrev pub Held : Merge → Type 0

@@ -2,30 +2,29 @@
 use Prim.Native.Nat.{ℕ, _+_, _≤_, _<_, min, _/_}
 use mathlib.Core.Path.{_≡_}
 use mathlib.Core.Bool.{true}
-use mathlib.Core.List.{List}
-use lib.Dec.{eqb}
+use mathlib.Core.List.{List, [], _∷_}
 use lib.ListN.{getD, length, set}
-use Rattle.labels.specs.Lists.{among}
+use Rattle.laws.proofs.IfGiven.{IfGiven}
 use Rattle.labels.specs.Job.{limits}
 use Rattle.labels.specs.declared.Glyph.{Glyph}
 use Rattle.labels.specs.declared.Span.{Span}
-use Rattle.labels.specs.Outcome.{Outcome}
-use Rattle.labels.specs.Merge.{Merging, halted, merging, replace, lengthAt, placeOf, spanContains, replaceFirst}
-use Rattle.merge.specs.Merged.{glyphsIn, mergedOf, Held}
+use Rattle.labels.specs.Outcome.{Outcome, refused, given}
+use Rattle.labels.specs.Merge.{Merging, placeOf, spanContains, replaceFirst, mergeDone}
+use Rattle.merge.specs.Merged.{glyphsIn, mergedOf, placesIn, Held}
 use Rattle.merge.specs.declared.Merge.{Merge}
 use Rattle.merge.specs.declared.chunk.GlyphRows.{GlyphRows}
 use Rattle.merge.specs.declared.step.Progress.{Progress}
 use Rattle.merge.specs.declared.step.Step.{Step}
 use Rattle.merge.specs.declared.step.Step.the-variants.{Going, Halted}
 
--- the glyph takes place p, where one of the list stood
-abbrev pub replacedAt : Glyph → ℕ → List Glyph → List ℕ → Merging
-replacedAt g p gs positions = replace g p (lengthAt gs p) gs positions
+-- the definitions' state as the code holds it, with the places replaced so far
+abbrev pub mergingAt : Progress → List ℕ → List ℕ → List ℕ → Merging
+mergingAt at s rows positions = record { list = glyphsIn s rows (at .count); replaced = positions; owed = at .owed; next = at .next }
 
--- the definitions' state, with the places replaced so far
-unfoldable pub mergingOf : Step → List ℕ → List ℕ → List ℕ → Merging
-mergingOf (Going at) s rows positions = merging (glyphsIn s rows (at .count)) positions (at .owed) (at .next)
-mergingOf (Halted k) s rows positions = halted k
+-- and as a step leaves it
+unfoldable pub mergingOf : Step → List ℕ → List ℕ → List ℕ → Outcome Merging
+mergingOf (Going at) s rows positions = given (mergingAt at s rows positions)
+mergingOf (Halted k) s rows positions = refused k
 
 -- the list is within its limit, and the place for the next glyph is in it or at its end
 pub record Fits (at : Progress) : Type 0 where
@@ -38,32 +37,34 @@ pub record Takes (at : Progress) (rows : List ℕ) (p : ℕ) : Type 0 where
   pub fits : Fits at
   pub inside : p < at .count
 
--- a step from `at` goes on in the same span, or is refused with a number
+-- a step from `at` goes on in the same span, with the table of first places as it was, or is refused with a number
 abbrev pub Within : Progress → Step → Type 0
-Within at (Going next) = Fits next × (next .stamp ≡ at .stamp)
+Within at (Going next) = Fits next × (next .stamp ≡ at .stamp) × (next .slack ≡ at .slack)
 Within at (Halted k) = 0 < k
 
 -- every mark is less than n
 abbrev pub Below : ℕ → List ℕ → Type 0
 Below n marks = (p : ℕ) → p < length marks → getD marks p 0 < n
 
--- a mark is the span's stamp at the places replaced so far, and less at every other
-pub record Marked (stamp : ℕ) (marks positions : List ℕ) : Type 0 where
-  pub below : Below (stamp + 1) marks
-  pub stamped : (p : ℕ) → p < length marks → among p positions ≡ eqb (getD marks p 0) stamp
+-- the marks with the stamp at some places
+unfoldable pub stamped : ℕ → List ℕ → List ℕ → List ℕ
+stamped stamp [] marks = marks
+stamped stamp (p ∷ ps) marks = set (stamped stamp ps marks) p stamp
 
--- the step is at the definitions' state m, with the stamp at the places that it remembers
-pub record Stands (r : Step) (s rows : List ℕ) (stamp : ℕ) (marks : List ℕ) (m : Merging) : Type 0 where
-  pub positions : List ℕ
-  pub marked : Marked stamp marks positions
-  pub is : mergingOf r s rows positions ≡ m
+-- The step r is the definitions' outcome o. Where that is a state, the marks are those from before the span, with the stamp at the places
+-- replaced. Where it is a refusal, nothing is said of the marks: no one reads them again.
+pub record Stands (r : Step) (s rows : List ℕ) (stamp : ℕ) (marks₀ marks : List ℕ) (o : Outcome Merging) : Type 0 where
+  pub marked : IfGiven (λ (m : Merging). marks ≡ stamped stamp (m .replaced) marks₀) o
+  pub is : mergingOf r s rows (placesIn o) ≡ o
 
--- a step from `at` leaves the lent arrays their sizes, and goes from the places that the marks show to the definitions' state
-pub record Stepped (at : Progress) (r : Step) (s rows marks₀ marks : List ℕ) (m : List ℕ → Merging) : Type 0 where
+-- A step from `at` leaves the lent arrays their sizes. If the marks are earlier ones with the span's stamp at the places replaced so far,
+-- it goes from the definitions' state with these places to the outcome o of them.
+pub record Stepped (at : Progress) (r : Step) (s rows marks marks₁ : List ℕ) (o : List ℕ → Outcome Merging) : Type 0 where
   pub row-room : length rows ≡ limits .merged
-  pub mark-room : length marks ≡ limits .merged
+  pub mark-room : length marks₁ ≡ limits .merged
   pub within : Within at r
-  pub stands : (positions : List ℕ) → Marked (at .stamp) marks₀ positions → Stands r s rows (at .stamp) marks (m positions)
+  pub stands : (marks₀ positions : List ℕ) → Below (at .stamp) marks₀ → marks ≡ stamped (at .stamp) positions marks₀
+      → Stands r s rows (at .stamp) marks₀ marks₁ (o positions)
 
 -- the entry of a byte index in the table of first places: 32 neighbours share one
 abbrev pub bucketOf : ℕ → ℕ
@@ -86,9 +87,9 @@ pub record Ready (at : Progress) (s rows marks firsts : List ℕ) : Type 0 where
 
 -- the glyph g replaces the first of its byte index, whatever span covers it
 abbrev pub FirstReplaced : Progress → Step → List ℕ → List ℕ → List ℕ → List ℕ → List ℕ → Glyph → Type 0
-FirstReplaced at r s rows₀ rows marks₀ marks g =
+FirstReplaced at r s rows rows₁ marks marks₁ g =
     (span : Span) → spanContains span (g .index) ≡ true
-    → Stepped at r s rows marks₀ marks (replaceFirst span g (glyphsIn s rows₀ (at .count)))
+    → Stepped at r s rows₁ marks marks₁ (λ positions. replaceFirst span g (mergingAt at s rows positions))
 
 -- what a span's merge asks for: the lent arrays have their sizes, the marks are of earlier spans, and the list is within its limit
 pub record Begun (rows marks : List ℕ) (stamp count : ℕ) : Type 0 where
@@ -102,10 +103,15 @@ pub record OwnFew (own : GlyphRows) : Type 0 where
   pub few : own .count ≤ limits .glyphs
   pub inside : own .first ≤ 2_000_000
 
--- what it leaves: the lent arrays with their sizes, no mark past the span's stamp, and the merge that o says
-pub record Ended (r : Merge) (s rows marks : List ℕ) (stamp : ℕ) (o : Outcome (List Glyph)) : Type 0 where
+-- What it leaves: the lent arrays with their sizes, and the merge that o says. Where that is not refused, the marks have got the span's stamp
+-- at `places`.
+pub record Ended (r : Merge) (s rows marks marks₁ : List ℕ) (stamp : ℕ) (places : List ℕ) (o : Outcome (List Glyph)) : Type 0 where
   pub row-room : length rows ≡ limits .merged
-  pub mark-room : length marks ≡ limits .merged
-  pub below : Below (stamp + 1) marks
+  pub mark-room : length marks₁ ≡ limits .merged
+  pub marked : IfGiven (λ (gs : List Glyph). marks₁ ≡ stamped stamp places marks) o
   pub held : Held r
   pub is : mergedOf r s rows ≡ o
+
+-- the same of a span whose glyphs are merged into a list that is not empty
+abbrev pub SpanEnded : Merge → List ℕ → List ℕ → List ℕ → List ℕ → ℕ → Outcome Merging → Type 0
+SpanEnded r s rows marks marks₁ stamp o = Ended r s rows marks marks₁ stamp (placesIn o) (mergeDone o)

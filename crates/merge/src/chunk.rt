@@ -26,8 +26,8 @@ ghost use Rattle.labels.specs.Bytes.{rows as records};
 ghost use Rattle.labels.specs.Decode.{glyphOf, glyphBytes, partsOf};
 ghost use Rattle.labels.specs.Merge.{mergeSpan, mergeGlyphs};
 ghost use Rattle.job_rows.specs.Rows.{partsIn};
-ghost use Rattle.merge.specs.Merged.{glyphsIn, mergedOf, mergedInto, Held, FewGlyphs, Mergeable};
-ghost use Rattle.merge.specs.Steps.{NoLater, Begun, OwnFew, Ended};
+ghost use Rattle.merge.specs.Merged.{glyphsIn, mergedOf, mergedInto, spanPlaces, Held, FewGlyphs, Mergeable};
+ghost use Rattle.merge.specs.Steps.{NoLater, Begun, OwnFew, Ended, SpanEnded};
 
 // The entries of a table of first places for the longest text.
 const BUCKETS: usize = Job::TEXT / BUCKET;
@@ -49,7 +49,7 @@ fn merge_glyphs(
     own: GlyphRows,
 ) -> Merge
     requires { ⌜ Begun (now rows) (now marks) stamp count × OwnFew own × NoLater 0 (now firsts) (glyphsIn (now s) (now rows) count) ⌝ }
-    ensures { λ r. ⌜ Ended r (now (s .entry)) (now (rows .exit)) (now (marks .exit)) stamp
+    ensures { λ r. ⌜ SpanEnded r (now (s .entry)) (now (rows .exit)) (now (marks .entry)) (now (marks .exit)) stamp
         (mergedInto (glyphsIn (now (s .entry)) (now (rows .entry)) count) span (now (s .entry)) (own .first) (own .count)) ⌝ }
 {
     let mut at = Progress {
@@ -94,7 +94,7 @@ fn merge_many(
     own: GlyphRows,
 ) -> Merge
     requires { ⌜ Begun (now rows) (now marks) stamp count × OwnFew own ⌝ }
-    ensures { λ r. ⌜ Ended r (now (s .entry)) (now (rows .exit)) (now (marks .exit)) stamp
+    ensures { λ r. ⌜ SpanEnded r (now (s .entry)) (now (rows .exit)) (now (marks .entry)) (now (marks .exit)) stamp
         (mergedInto (glyphsIn (now (s .entry)) (now (rows .entry)) count) span (now (s .entry)) (own .first) (own .count)) ⌝ }
 {
     let mut firsts = [0u16; BUCKETS];
@@ -144,7 +144,8 @@ pub fn merge_span(
     count: usize,
 ) -> Merge
     requires { ⌜ (length (now s) ≤ 1_048_576) × FewGlyphs (partsOf (drop at (now s))) × Begun (now rows) (now marks) stamp count ⌝ }
-    ensures { λ r. ⌜ Ended r (now (s .entry)) (now (rows .exit)) (now (marks .exit)) stamp
+    ensures { λ r. ⌜ Ended r (now (s .entry)) (now (rows .exit)) (now (marks .entry)) (now (marks .exit)) stamp
+        (spanPlaces (glyphsIn (now (s .entry)) (now (rows .entry)) count) (partsOf (drop at (now (s .entry)))))
         (mergeSpan (given (glyphsIn (now (s .entry)) (now (rows .entry)) count)) (partsOf (drop at (now (s .entry))))) ⌝ }
 {
     let own = glyph_rows(s, at);

@@ -14,9 +14,9 @@ ghost use mathlib.Core.List.{List, _∷_};
 ghost use Prim.Native.Nat.{ℕ, _+_, _<_};
 ghost use lib.ListN.{length, drop};
 ghost use Rattle.labels.specs.Decode.{glyphOf};
-ghost use Rattle.labels.specs.Merge.{merging, replaceLonger, insertNext, mergeGlyph};
-ghost use Rattle.merge.specs.Merged.{glyphsIn};
-ghost use Rattle.merge.specs.Steps.{replacedAt, mergingOf, Fits, Takes, Within, Stepped, Ready, FirstReplaced};
+ghost use Rattle.labels.specs.Outcome.{given};
+ghost use Rattle.labels.specs.Merge.{skipped, replaceLonger, replace as replaceIn, insertNext, mergeGlyph};
+ghost use Rattle.merge.specs.Steps.{mergingAt, mergingOf, Fits, Takes, Within, Stepped, Ready, FirstReplaced};
 
 // Where the merge of a span stands: how many glyphs the list has; how many of the next glyphs are still to be inserted unfiltered, with the
 // place for the first of them; the slack of the table of first places; and the span's stamp.
@@ -39,7 +39,7 @@ pub fn insert_next(rows: &mut [u32; 1024], at: Progress, row: u32) -> Step
     requires { ⌜ (length (now rows) ≡ 1024) × Fits at × (0 < at .owed) ⌝ }
     ensures { λ r. ⌜ (length (now (rows .exit)) ≡ 1024) × Within at r
         × ((s positions : List ℕ) → mergingOf r s (now (rows .exit)) positions
-        ≡ insertNext (glyphOf (drop row s)) (glyphsIn s (now (rows .entry)) (at .count)) positions (at .owed) (at .next)) ⌝ }
+        ≡ insertNext (glyphOf (drop row s)) (mergingAt at s (now (rows .entry)) positions)) ⌝ }
 {
     if at.count < Job::MERGED {
         insert_row(rows, at.count, at.next, row);
@@ -59,7 +59,7 @@ pub fn replace_longer(rows: &mut [u32; 1024], at: Progress, p: usize, row: u32, 
     requires { ⌜ Takes at (now rows) p × (gone < 256) ⌝ }
     ensures { λ r. ⌜ (length (now (rows .exit)) ≡ 1024) × Within at r
         × ((s positions : List ℕ) → gone + 1 ≡ glyphOf (drop row s) .length → mergingOf r s (now (rows .exit)) (p ∷ positions)
-        ≡ replaceLonger (glyphOf (drop row s)) p (glyphsIn s (now (rows .entry)) (at .count)) positions) ⌝ }
+        ≡ replaceLonger (glyphOf (drop row s)) p (mergingAt at s (now (rows .entry)) positions)) ⌝ }
 {
     if p + gone < at.count {
         let left = at.count - gone;
@@ -81,7 +81,7 @@ pub fn replace(s: &[u8], rows: &mut [u32; 1024], at: Progress, p: usize, row: u3
     requires { ⌜ Takes at (now rows) p ⌝ }
     ensures { λ r. ⌜ (length (now (rows .exit)) ≡ 1024) × Within at r
         × ((positions : List ℕ) → mergingOf r (now (s .entry)) (now (rows .exit)) (p ∷ positions)
-        ≡ replacedAt (glyphOf (drop row (now (s .entry)))) p (glyphsIn (now (s .entry)) (now (rows .entry)) (at .count)) positions) ⌝ }
+        ≡ replaceIn (glyphOf (drop row (now (s .entry)))) p (mergingAt at (now (s .entry)) (now (rows .entry)) positions)) ⌝ }
 {
     let old = length_at(s, rows[p]);
     let new = length_at(s, row);
@@ -113,7 +113,7 @@ pub fn replace(s: &[u8], rows: &mut [u32; 1024], at: Progress, p: usize, row: u3
 fn skip(at: Progress) -> Step
     requires { ⌜ Fits at ⌝ }
     ensures { λ r. ⌜ Within at r
-        × ((s rows positions : List ℕ) → mergingOf r s rows positions ≡ merging (glyphsIn s rows (at .count)) positions 0 0) ⌝ }
+        × ((s rows positions : List ℕ) → mergingOf r s rows positions ≡ given (skipped (mergingAt at s rows positions))) ⌝ }
 {
     Step::Going(Progress {
         count: at.count,
@@ -162,8 +162,7 @@ pub fn merge_glyph(
 ) -> Step
     requires { ⌜ Ready at (now s) (now rows) (now marks) (now firsts) ⌝ }
     ensures { λ r. ⌜ Stepped at r (now (s .entry)) (now (rows .exit)) (now (marks .entry)) (now (marks .exit))
-        (λ positions. mergeGlyph span (merging (glyphsIn (now (s .entry)) (now (rows .entry)) (at .count)) positions (at .owed) (at .next))
-        (glyphOf (drop row (now (s .entry))))) ⌝ }
+        (λ positions. mergeGlyph span (given (mergingAt at (now (s .entry)) (now (rows .entry)) positions)) (glyphOf (drop row (now (s .entry))))) ⌝ }
 {
     let index = index_at(s, row);
     let covered = span_contains(span, index as u32);

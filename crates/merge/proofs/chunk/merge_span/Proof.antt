@@ -1,12 +1,14 @@
 -- `merge::chunk::merge_span` meets its contract: the span's own list, or its glyphs merged. Assumes nothing.
-use mathlib.Core.Path.{_≡_, refl, _∙_}
+use Prim.Native.Nat.{ℕ}
+use mathlib.Core.Path.{refl, _∙_}
+use mathlib.Core.List.{List}
 use lib.ListN.{drop}
 use Rattle.labels.specs.Outcome.{given}
 use Rattle.labels.specs.Decode.{partsOf}
 use Rattle.labels.specs.Merge.{mergeSpan}
-use Rattle.merge.specs.Merged.{glyphsIn, mergedOf, mergedInto}
-use Rattle.merge.specs.Steps.{OwnFew}
-use Rattle.merge.proofs.Marks.{below-more}
+use Rattle.merge.specs.declared.Merge.{Merge}
+use Rattle.merge.specs.Merged.{glyphsIn, mergedOf, mergedInto, spanPlaces}
+use Rattle.merge.specs.Steps.{stamped, OwnFew, Ended, SpanEnded}
 use Rattle.merge.proofs.Spans.{own-few, own-span, span-first, span-more}
 use native.Mathlib.Omega.{arith}
 use borrow.Author.Needs.{needs}
@@ -22,17 +24,18 @@ list-span-requires c κs =
     (start .pre .0, start .pre .1, omega (arith, start .pre .1, start .pre .2 .row-room))
 
 returns : tie.Need-returns
-unfolding mergedOf
+unfolding mergedOf stamped
 returns c =
     let start = c .before .before .before .before .before in
     let begun = start .pre .2 in
     let a = start .args in
-    let parts = partsOf (drop (a .at) (a .s .now)) in record {
+    span-first (a .s .now) (partsOf (drop (a .at) (a .s .now))) (a .rows .now) (a .count) (omega arith) (Ended _ (a .s .now) _ (a .marks .now) (a .marks .now) (a .stamp))
+    record {
       row-room = c .list-span .ensures .0 ∙ begun .row-room;
       mark-room = begun .mark-room;
-      below = below-more (a .stamp) (a .marks .now) (begun .earlier);
+      marked = refl;
       held = rw (c .list-span .ensures .1) (start .pre .1);
-      is = rw (span-first (a .s .now) parts (a .rows .now) (a .count) (omega arith), c .list-span .ensures .2);
+      is = rw (c .list-span .ensures .2);
     }
 
 span-at-requires : tie.Need-span-at-requires
@@ -53,18 +56,21 @@ own-rows c =
     record { few = own-few (a .s .now) (partsOf (drop (a .at) (a .s .now))) (own .result .first) (own .result .count) (own .ensures .1) (start .pre .1); inside = own .ensures .0 }
 
 -- the span's merge is that of its glyphs into the list, which is not empty
-merged-span : (c : tie.After-span-at) → (let a = c .before .before .before .before .args in
+merged-span : (c : tie.After-span-at) (r : Merge) (rows marks : List ℕ) → (let a = c .before .before .before .before .args in
+    let gs = glyphsIn (a .s .now) (a .rows .now) (a .count) in
     let own = c .before .before .glyph-rows .result in
-    mergedInto (glyphsIn (a .s .now) (a .rows .now) (a .count)) (c .span-at .result) (a .s .now) (own .first) (own .count)
-    ≡ mergeSpan (given (glyphsIn (a .s .now) (a .rows .now) (a .count))) (partsOf (drop (a .at) (a .s .now))))
-merged-span c =
+    let parts = partsOf (drop (a .at) (a .s .now)) in
+    SpanEnded r (a .s .now) rows (a .marks .now) marks (a .stamp) (mergedInto gs (c .span-at .result) (a .s .now) (own .first) (own .count))
+    → Ended r (a .s .now) rows (a .marks .now) marks (a .stamp) (spanPlaces gs parts) (mergeSpan (given gs) parts))
+merged-span c r rows marks ended =
     let some = c .before .if1 .left in
     let own = c .before .before .glyph-rows in
     let start = c .before .before .before .before in
     let begun = start .pre .2 in
     let a = start .args in
     let bs = drop (a .at) (a .s .now) in
-    rw (span-more (a .s .now) (partsOf bs) (own .result .first) (own .result .count) (own .ensures .1) (a .rows .now) (a .count) (omega (arith, some)) (omega (arith, begun .row-room, begun .few)), ← own-span bs, ← c .span-at .ensures) refl
+    span-more (a .s .now) (partsOf bs) (own .result .first) (own .result .count) (own .ensures .1) (a .rows .now) (a .count) (omega (arith, some)) (omega (arith, begun .row-room, begun .few))
+    (Ended r (a .s .now) rows (a .marks .now) marks (a .stamp)) (rw (← own-span bs, ← c .span-at .ensures) ended)
 
 merge-glyphs-requires : tie.Need-merge-glyphs-requires
 merge-glyphs-requires c κs =
@@ -73,8 +79,7 @@ merge-glyphs-requires c κs =
 
 returns-2 : tie.Need-returns-2
 returns-2 c =
-    let at-span = c .before .before .before .before .before .before .before in
-    rw (merged-span at-span) at (c .before .merge-glyphs .ensures)
+    merged-span (c .before .before .before .before .before .before .before) _ _ _ (c .before .merge-glyphs .ensures)
 
 merge-many-requires : tie.Need-merge-many-requires
 merge-many-requires c κs =
@@ -83,8 +88,7 @@ merge-many-requires c κs =
 
 returns-3 : tie.Need-returns-3
 returns-3 c =
-    let at-span = c .before .before .before .before .before in
-    rw (merged-span at-span) at (c .merge-many .ensures)
+    merged-span (c .before .before .before .before .before) _ _ _ (c .merge-many .ensures)
 
 pub merge-span-spec : {M : Type 1} → statement M
 merge-span-spec =

@@ -26,9 +26,9 @@ returns c =
     let start = row .before .before .before .before in
     let a = start .args in (
       row .insert-row .ensures .0,
-      (record { few = omega arith; placed = omega (arith, start .pre .1 .placed) }, refl),
+      (record { few = omega arith; placed = omega (arith, start .pre .1 .placed) }, refl, refl),
       λ s positions.
-          rw (inserts s (a .rows .now) (a .at .count) (a .row) positions (omega (arith, start .pre .0, start .pre .1 .few)) (a .at .owed) (a .at .next) (omega arith), row .insert-row .ensures .1 s),
+          rw (inserts s (a .rows .now) (a .at) (a .row) positions (omega (arith, start .pre .0, start .pre .1 .few)) (omega arith), row .insert-row .ensures .1 s),
     )
 
 returns-2 : tie.Need-returns-2
@@ -38,7 +38,7 @@ returns-2 c =
     let a = start .args in (
       start .pre .0,
       omega arith,
-      λ s positions. sym (full s (a .rows .now) (a .at .count) (a .row) positions (omega (arith, start .pre .0, start .pre .1 .few)) (a .at .owed) (a .at .next) (omega arith)),
+      λ s positions. sym (full s (a .rows .now) (a .at) (a .row) positions (omega (arith, start .pre .0, start .pre .1 .few)) (omega arith)),
     )
 
 pub insert-next-spec : {M : Type 1} → statement M

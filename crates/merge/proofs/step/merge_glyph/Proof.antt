@@ -3,7 +3,7 @@ use Prim.Native.Nat.{_≤_}
 use mathlib.Core.Path.{sym, _∙_}
 use lib.ListN.{length}
 use borrow.Author.Tests.{not-true, not-false}
-use Rattle.merge.proofs.Merges.{glyph-owed, glyph-free, outside}
+use Rattle.merge.proofs.Merges.{glyph-owed, glyph-free, outside, stood}
 use native.Mathlib.Omega.{arith}
 use borrow.Author.Needs.{needs}
 use Rattle.merge.proofs.step.merge_glyph.Statement.{statement}
@@ -35,11 +35,9 @@ returns c =
       row-room = c .insert-next .ensures .0;
       mark-room = start .pre .mark-room;
       within = c .insert-next .ensures .1;
-      stands = λ positions known. record {
-        positions = positions;
-        marked = known;
-        is = rw (glyph-owed s (a .rows .now) (a .at .count) (a .row) positions (held start) (a .span) (a .at .owed) (a .at .next) (omega arith)) (c .insert-next .ensures .2 s positions);
-      };
+      stands = λ marks₀ positions less known.
+          rw (glyph-owed s (a .rows .now) (a .at) (a .row) positions (held start) (a .span) (omega arith))
+          (stood (c .insert-next .result) positions known (c .insert-next .ensures .2 s positions));
     }
 
 skip-requires : tie.Need-skip-requires
@@ -55,16 +53,12 @@ returns-2 c =
       row-room = start .pre .row-room;
       mark-room = start .pre .mark-room;
       within = c .skip .ensures .0;
-      stands = λ positions known. record {
-        positions = positions;
-        marked = known;
-        is =
-            rw (
-              glyph-free s (a .rows .now) (a .at .count) (a .row) positions (held start) (a .span) (a .at .owed) (a .at .next) (omega arith),
-              outside s (a .rows .now) (a .at .count) (a .row) positions (held start) (a .span) (index .result) (index .ensures) (sym (covered .ensures) ∙ not-true (covered .result) (c .before .if2 .taken)),
-            )
-            (c .skip .ensures .1 s (a .rows .now) positions);
-      };
+      stands = λ marks₀ positions less known.
+          rw (
+            glyph-free s (a .rows .now) (a .at) (a .row) positions (held start) (a .span) (omega arith),
+            outside s (a .rows .now) (a .at) (a .row) positions (held start) (a .span) (index .result) (index .ensures) (sym (covered .ensures) ∙ not-true (covered .result) (c .before .if2 .taken)),
+          )
+          (stood (c .skip .result) positions known (c .skip .ensures .1 s (a .rows .now) positions));
     }
 
 replace-first-requires : tie.Need-replace-first-requires
@@ -82,9 +76,9 @@ returns-3 c =
       row-room = did .row-room;
       mark-room = did .mark-room;
       within = did .within;
-      stands = λ positions known.
-          rw (glyph-free s (a .rows .now) (a .at .count) (a .row) positions (held start) (a .span) (a .at .owed) (a .at .next) (omega arith))
-          (did .stands positions known);
+      stands = λ marks₀ positions less known.
+          rw (glyph-free s (a .rows .now) (a .at) (a .row) positions (held start) (a .span) (omega arith))
+          (did .stands marks₀ positions less known);
     }
 
 pub merge-glyph-spec : {M : Type 1} → statement M

@@ -35,7 +35,7 @@ returns c =
       c .replace-longer .ensures .0,
       c .replace-longer .ensures .1,
       λ positions.
-          rw (longer s (a .rows .now) (a .at .count) (a .row) positions (omega (arith, start .pre .row-room, start .pre .fits .few)) (a .p) (new .result) (old .result) (new .ensures .0) (old .ensures .0) (omega arith) (omega arith))
+          rw (longer s (a .rows .now) (a .at) (a .row) positions (omega (arith, start .pre .row-room, start .pre .fits .few)) (a .p) (new .result) (old .result) (new .ensures .0) (old .ensures .0) (omega arith) (omega arith))
           (c .replace-longer .ensures .2 s positions (omega (arith, new .ensures .0))),
     )
 
@@ -58,9 +58,9 @@ returns-2 c =
     let a = start .args in
     let s = a .s .now in (
       put .ensures .0,
-      (record { few = start .pre .fits .few; placed = omega arith }, refl),
+      (record { few = start .pre .fits .few; placed = omega arith }, refl, refl),
       λ positions.
-          rw (shorter s (a .rows .now) (a .at .count) (a .row) positions (omega (arith, start .pre .row-room, start .pre .fits .few)) (a .p) (new .result) (old .result) (new .ensures .0) (old .ensures .0) (omega arith) (omega arith), put .ensures .1 s),
+          rw (shorter s (a .rows .now) (a .at) (a .row) positions (omega (arith, start .pre .row-room, start .pre .fits .few)) (a .p) (new .result) (old .result) (new .ensures .0) (old .ensures .0) (omega arith) (omega arith), put .ensures .1 s),
     )
 
 returns-3 : tie.Need-returns-3
@@ -73,9 +73,9 @@ returns-3 c =
     let a = start .args in
     let s = a .s .now in (
       put .ensures .0,
-      (record { few = start .pre .fits .few; placed = omega arith }, refl),
+      (record { few = start .pre .fits .few; placed = omega arith }, refl, refl),
       λ positions.
-          rw (as-long s (a .rows .now) (a .at .count) (a .row) positions (omega (arith, start .pre .row-room, start .pre .fits .few)) (a .p) (new .result) (old .result) (new .ensures .0) (old .ensures .0) (omega arith) (omega arith) (omega arith), put .ensures .1 s),
+          rw (as-long s (a .rows .now) (a .at) (a .row) positions (omega (arith, start .pre .row-room, start .pre .fits .few)) (a .p) (new .result) (old .result) (new .ensures .0) (old .ensures .0) (omega arith) (omega arith) (omega arith), put .ensures .1 s),
     )
 
 pub replace-spec : {M : Type 1} → statement M

@@ -4,8 +4,9 @@ use mathlib.Core.Path.{_∙_}
 use mathlib.Core.List.{_∷_}
 use lib.ListN.{length, length-set}
 use borrow.Author.Tests.{eq-eqb, ne-eqb}
-use Rattle.merge.proofs.Marks.{marked-more}
-use Rattle.merge.proofs.Merges.{missing, replaced, replaces}
+use Rattle.merge.specs.Steps.{stamped}
+use Rattle.merge.proofs.Marks.{remembered}
+use Rattle.merge.proofs.Merges.{missing, replaced, replaces, stood}
 use native.Mathlib.Omega.{arith}
 use borrow.Author.Needs.{needs}
 use Rattle.merge.proofs.step.replace_first.Statement.{statement}
@@ -38,13 +39,9 @@ returns c =
       row-room = start .pre .0 .row-room;
       mark-room = start .pre .0 .mark-room;
       within = c .skip .ensures .0;
-      stands = λ positions known. record {
-        positions = positions;
-        marked = known;
-        is =
-            rw (missing s (a .rows .now) (a .at .count) (a .row) positions (held start) span (a .index) (start .pre .1) (rw (start .pre .1) covered) (place .result) (place .ensures) (omega arith))
-            (c .skip .ensures .1 s (a .rows .now) positions);
-      };
+      stands = λ marks₀ positions less known.
+          rw (missing s (a .rows .now) (a .at) (a .row) positions (held start) span (a .index) (start .pre .1) (rw (start .pre .1) covered) (place .result) (place .ensures) (omega arith))
+          (stood (c .skip .result) positions known (c .skip .ensures .1 s (a .rows .now) positions));
     }
 
 element-copy-out-if2 : tie.Need-element-copy-out-if2
@@ -64,14 +61,10 @@ returns-2 c =
       row-room = start .pre .0 .row-room;
       mark-room = start .pre .0 .mark-room;
       within = c .skip2 .ensures .0;
-      stands = λ positions known. record {
-        positions = positions;
-        marked = known;
-        is =
-            rw (replaced s (a .rows .now) (a .at .count) (a .row) positions (held start) span (a .index) (start .pre .1) (rw (start .pre .1) covered) (place .result) (place .ensures) (omega arith)
-            (known .stamped (place .result) (omega arith) ∙ eq-eqb _ (a .at .stamp) (c .before .if2 .taken)))
-            (c .skip2 .ensures .1 s (a .rows .now) positions);
-      };
+      stands = λ marks₀ positions less known.
+          rw (replaced s (a .rows .now) (a .at) (a .row) positions (held start) span (a .index) (start .pre .1) (rw (start .pre .1) covered) (place .result) (place .ensures) (omega arith)
+          (remembered (a .at .stamp) marks₀ less positions known (place .result) (omega arith) ∙ eq-eqb _ (a .at .stamp) (c .before .if2 .taken)))
+          (stood (c .skip2 .result) positions known (c .skip2 .ensures .1 s (a .rows .now) positions));
     }
 
 element-write-marks : tie.Need-element-write-marks
@@ -81,6 +74,7 @@ replace-requires : tie.Need-replace-requires
 replace-requires c κs = search needs
 
 returns-3 : tie.Need-returns-3
+unfolding stamped
 returns-3 c =
     let found = c .before .before .before .before .before .before .before in
     let place = found .place-of in
@@ -91,14 +85,10 @@ returns-3 c =
       row-room = c .replace .ensures .0;
       mark-room = simp length-set (start .pre .0 .mark-room);
       within = c .replace .ensures .1;
-      stands = λ positions known. record {
-        positions = place .result ∷ positions;
-        marked = marked-more (a .at .stamp) (a .marks .now) (place .result) (omega arith) positions known;
-        is =
-            rw (replaces s (a .rows .now) (a .at .count) (a .row) positions (held start) span (a .index) (start .pre .1) (rw (start .pre .1) covered) (place .result) (place .ensures) (omega arith)
-            (known .stamped (place .result) (omega arith) ∙ ne-eqb _ (a .at .stamp) (c .before .before .if2 .left)))
-            (c .replace .ensures .2 positions);
-      };
+      stands = λ marks₀ positions less known.
+          rw (replaces s (a .rows .now) (a .at) (a .row) positions (held start) span (a .index) (start .pre .1) (rw (start .pre .1) covered) (place .result) (place .ensures) (omega arith)
+          (remembered (a .at .stamp) marks₀ less positions known (place .result) (omega arith) ∙ ne-eqb _ (a .at .stamp) (c .before .before .if2 .left)))
+          (stood (c .replace .result) (place .result ∷ positions) (rw known) (c .replace .ensures .2 positions));
     }
 
 pub replace-first-spec : {M : Type 1} → statement M

@@ -28,9 +28,9 @@ returns c =
     let a = start .args in
     let gone = c .before .before .remove-rows .ensures .1 in (
       c .replace-row .ensures .0,
-      (record { few = omega (arith, start .pre .0 .fits .few); placed = omega arith }, refl),
+      (record { few = omega (arith, start .pre .0 .fits .few); placed = omega arith }, refl, refl),
       λ s positions gone-is.
-          rw (covers s (a .rows .now) (a .at .count) (a .row) positions (omega (arith, start .pre .0 .row-room, start .pre .0 .fits .few)) (a .p) (a .gone) gone-is (omega arith), c .replace-row .ensures .1 s, gone s),
+          rw (covers s (a .rows .now) (a .at) (a .row) positions (omega (arith, start .pre .0 .row-room, start .pre .0 .fits .few)) (a .p) (a .gone) gone-is (omega arith), c .replace-row .ensures .1 s, gone s),
     )
 
 returns-2 : tie.Need-returns-2
@@ -41,7 +41,7 @@ returns-2 c =
       start .pre .0 .row-room,
       omega arith,
       λ s positions gone-is.
-          sym (past-end s (a .rows .now) (a .at .count) (a .row) positions (omega (arith, start .pre .0 .row-room, start .pre .0 .fits .few)) (a .p) (a .gone) gone-is (omega arith)),
+          sym (past-end s (a .rows .now) (a .at) (a .row) positions (omega (arith, start .pre .0 .row-room, start .pre .0 .fits .few)) (a .p) (a .gone) gone-is (omega arith)),
     )
 
 pub replace-longer-spec : {M : Type 1} → statement M
