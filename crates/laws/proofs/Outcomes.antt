@@ -54,7 +54,7 @@ module _ {A : Type 0} where
 -- ---- the checks cs, place by place
 
 -- a mapped list from place k on
-mapped : {B C : Type 0} (f : B → C) (bs : List B) (k : ℕ) (d : B) → k < length bs → drop k (map f bs) ≡ f (getD bs k d) ∷ drop (k + 1) (map f bs)
+pub mapped : {B C : Type 0} (f : B → C) (bs : List B) (k : ℕ) (d : B) → k < length bs → drop k (map f bs) ≡ f (getD bs k d) ∷ drop (k + 1) (map f bs)
 mapped f [] k d h = absurd (not-suc-le-zero h)
 mapped f (b ∷ bs) zero d h = refl
 mapped f (b ∷ bs) (suc k) d h = rw suc-add (mapped f bs k d (le-of-suc-le-suc h))

@@ -1,14 +1,13 @@
 -- Where no more than one span has glyphs, these are the merged list. Assumes nothing.
 use Prim.Native.Nat.{ℕ, zero, suc, _+_, _≤_, _<_}
-use mathlib.Core.Path.{_≡_, refl, sym, ap, _∙_}
+use mathlib.Core.Path.{_≡_, refl, ap}
 use mathlib.Core.Bool.{true, false}
 use mathlib.Core.List.{List, [], _∷_, foldl}
 use native.Mathlib.Nat.{not-suc-le-zero, le-of-suc-le-suc}
-use native.Mathlib.Numerals.{add-one}
 use native.Mathlib.Omega.{arith}
 use lib.ListN.{length, getD, drop, length-map}
-use lib.Seq.{drop-cons}
 use Rattle.laws.proofs.Records.{length-rows}
+use Rattle.laws.proofs.Outcomes.{mapped}
 use Rattle.labels.specs.Outcome.{given, andThen}
 use Rattle.labels.specs.Lists.{isEmpty, findIdx, atOr}
 use Rattle.labels.specs.declared.Glyph.{Glyph}
@@ -16,7 +15,6 @@ use Rattle.labels.specs.Job.{SpanParts}
 use Rattle.labels.specs.Decode.{glyphBytes, glyphOf, glyphCount, partsOf}
 use Rattle.labels.specs.Merge.{mergeDone, mergeSpan, mergeGlyphs}
 use Rattle.job_rows.specs.Rows.{partsIn}
-use Rattle.merge.proofs.Moved.{map-drop}
 use Rattle.merge.specs.Source.{hasGlyphs, glyphSpan, spanGlyphs}
 
 -- a span without glyphs leaves the list as it is
@@ -66,9 +64,7 @@ alone-merged ps h =
 
 pub parts-next : (s spans : List ℕ) (i : ℕ) → i < length spans → drop i (partsIn s spans) ≡ partsOf (drop (getD spans i 0) s) ∷ drop (i + 1) (partsIn s spans)
 unfolding partsIn
-parts-next s spans i h =
-    let part : ℕ → SpanParts = λ (at : ℕ). partsOf (drop at s) in
-    sym (map-drop part i spans) ∙ rw (drop-cons spans i 0 h, add-one, ← map-drop part (suc i) spans) refl
+parts-next s spans i h = mapped (λ (at : ℕ). partsOf (drop at s)) spans i 0 h
 
 pub parts-length : (s spans : List ℕ) → length (partsIn s spans) ≡ length spans
 unfolding partsIn

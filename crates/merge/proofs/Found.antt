@@ -10,6 +10,7 @@ use lib.Dec.{eqb}
 use lib.ListN.{length, take, drop, getD, length-take, drop-of-length-le}
 use lib.Seq.{drop-cons, getD-take}
 use borrow.Author.Tests.{eq-eqb, ne-eqb}
+use Rattle.laws.proofs.Outcomes.{mapped}
 use Rattle.labels.specs.Lists.{findIdx, atOr}
 use Rattle.labels.specs.declared.Glyph.{Glyph}
 use Rattle.labels.specs.Decode.{glyphOf}
@@ -38,10 +39,6 @@ module _ (s rows : List ℕ) (n index : ℕ) where
   -- where the search ends that has passed i rows
   abbrev pub placeFrom : ℕ → ℕ
   placeFrom i = i + placeOf index (map glyphAt (drop i (take n rows)))
-
-  pub place-start : placeFrom 0 ≡ placeOf index (glyphsIn s rows n)
-  unfolding glyphsIn glyphsAt
-  place-start = omega arith
 
   pub place-from : (i : ℕ) → i ≤ placeOf index (glyphsIn s rows n) → placeFrom i ≡ placeOf index (glyphsIn s rows n)
   unfolding glyphsIn glyphsAt
@@ -78,3 +75,9 @@ at-map b f h d (x ∷ l) (suc n) (suc p) k m = at-map b f h d l n p (le-of-suc-l
 pub length-there : (s rows : List ℕ) (n p : ℕ) → p < n → n ≤ length rows → lengthAt (glyphsIn s rows n) p ≡ glyphOf (drop (getD rows p 0) s) .length
 unfolding glyphsIn glyphsAt
 length-there s rows n p h k = at-map 0 (λ (g : Glyph). g .length) (λ (at : ℕ). glyphOf (drop at s)) 0 rows n p h k
+
+-- the glyph at place i, and those after it
+pub glyphs-next : (s rows : List ℕ) (n i : ℕ) → i < n → n ≤ length rows → drop i (glyphsIn s rows n) ≡ glyphOf (drop (getD rows i 0) s) ∷ drop (i + 1) (glyphsIn s rows n)
+unfolding glyphsIn glyphsAt
+glyphs-next s rows n i h k =
+    rw (← getD-take n rows i 0 h) (mapped (λ (at : ℕ). glyphOf (drop at s)) (take n rows) i 0 (simp length-take (omega arith)))

@@ -8,8 +8,14 @@ use lib.Dec.{eqb}
 use lib.ListN.{length, getD, set, replicate, length-replicate, length-set, getD-replicate}
 use lib.Seq.{getD-set-same, getD-set-other}
 use borrow.Author.Tests.{eqb-true, eqb-false, eq-eqb, ne-eqb}
+use Rattle.laws.proofs.IfGiven.{of-given}
+use Rattle.labels.specs.Outcome.{Outcome}
 use Rattle.labels.specs.Lists.{any, among}
-use Rattle.merge.specs.Steps.{Below, stamped}
+use Rattle.labels.specs.declared.Glyph.{Glyph}
+use Rattle.merge.specs.Merged.{mergedOf}
+use Rattle.merge.specs.Steps.{Below, stamped, Ended}
+use Rattle.merge.specs.declared.Merge.{Merge}
+use Rattle.merge.specs.declared.Merge.the-variants as M
 
 pub below-clear : (n : ℕ) → Below 1 (replicate n 0)
 below-clear n p h = let k : p < n = rw length-replicate at h in rw (getD-replicate {A = ℕ} n p 0 0 k) (omega arith)
@@ -26,7 +32,7 @@ module _ (stamp : ℕ) where
 
   -- some places of marks that are less are stamped
   module _ (marks : List ℕ) (less : Below stamp marks) where
-    pub below-stamped : (ps : List ℕ) → Below (stamp + 1) (stamped stamp ps marks)
+    below-stamped : (ps : List ℕ) → Below (stamp + 1) (stamped stamp ps marks)
     unfolding stamped
     below-stamped [] p h = omega (arith, less p h)
     below-stamped (p ∷ ps) q h = each (stamped stamp ps marks) p (λ q m. m < stamp + 1) (omega arith) (λ r k other. below-stamped ps r k) q h
@@ -42,3 +48,9 @@ module _ (stamp : ℕ) where
 
     pub remembered : (ps : List ℕ) {marks₁ : List ℕ} → marks₁ ≡ stamped stamp ps marks → (p : ℕ) → p < length marks₁ → among p ps ≡ eqb (getD marks₁ p 0) stamp
     remembered ps e p = rw e (among-stamped ps p)
+
+-- after a span's merge that was not refused
+pub ended-below : {r : Merge} {s rows marks marks₁ places : List ℕ} {stamp n : ℕ} {o : Outcome (List Glyph)} → Ended r s rows marks marks₁ stamp places o → r ≡ M.Merged n
+    → Below stamp marks → Below (stamp + 1) marks₁
+unfolding mergedOf
+ended-below {places = places} ended e less = rw (of-given _ _ _ (ended .marked) (sym (rw e at (ended .is)))) (below-stamped _ _ less places)

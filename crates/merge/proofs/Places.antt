@@ -1,20 +1,32 @@
--- The table of first places: as the loop from the last glyph to the first makes it, and what a step leaves of it. Assumes nothing.
+-- The table of first places is no later than the first places: as it is made, after a step, and made anew. Assumes nothing.
 use Prim.Native.Nat.{ℕ, zero, suc, _+_, _-_, _≤_, _<_, min}
-use mathlib.Core.Path.{_≡_, refl, sym, ap, _∙_}
-use mathlib.Core.Bool.{Bool, true, false}
+use mathlib.Core.Path.{_≡_, refl, sym, ap}
+use mathlib.Core.Bool.{Bool, true, false, cond}
 use mathlib.Core.List.{List, [], _∷_}
 use native.Mathlib.Omega.{arith}
 use lib.Dec.{eqb, ltb}
 use lib.ListN.{length, drop, getD, set, replicate}
 use lib.Seq.{getD-set-other}
-use borrow.Author.Tests.{eqb-true, eqb-false, ltb-true, ltb-false}
+use borrow.Author.Tests.{eqb-true, eqb-false, ne-eqb, ltb-true, ltb-false}
+use Rattle.labels.specs.Lists.{findIdx}
 use Rattle.labels.specs.declared.Glyph.{Glyph}
 use Rattle.labels.specs.Decode.{glyphOf}
 use Rattle.labels.specs.Merge.{Merging, placeOf}
 use Rattle.merge.specs.Merged.{glyphsIn}
-use Rattle.merge.specs.Steps.{bucketOf, NoLater, lowered}
+use Rattle.merge.specs.Firsts.{bucketOf, bucketsFrom, firstsOf, lowered, Table, table, tableAfter, renewed, NoLater}
 use Rattle.merge.proofs.Shifted.{After}
-use Rattle.merge.proofs.Found.{placeFrom, place-start, place-on, place-end}
+use Rattle.merge.proofs.Found.{glyphs-next}
+
+-- ---- a table as it is made
+
+-- the glyph before place j is put
+pub bucket-put : (s rows : List ℕ) (n j index : ℕ) (firsts : List ℕ) → 0 < j → j ≤ n → n ≤ length rows → index ≡ glyphOf (drop (getD rows (j - 1) 0) s) .index
+    → set (bucketsFrom j (drop j (glyphsIn s rows n)) firsts) (bucketOf index) (j - 1) ≡ bucketsFrom (j - 1) (drop (j - 1) (glyphsIn s rows n)) firsts
+unfolding bucketsFrom
+bucket-put s rows n j index firsts some within held index-is =
+    let here : j - 1 < n = omega arith in
+    let on : j - 1 + 1 ≡ j = omega arith in
+    rw (glyphs-next s rows n (j - 1) here held, on, index-is)
 
 filled-at : (k n b : ℕ) → getD (replicate k n) b 0 ≤ n
 filled-at zero n b = omega arith
@@ -26,81 +38,86 @@ put-at [] b place = omega arith
 put-at (f ∷ firsts) zero place = omega arith
 put-at (f ∷ firsts) (suc b) place = put-at firsts b place
 
-module _ (s rows : List ℕ) (n : ℕ) where
-  -- no entry is past the place of the first glyph of one of its byte indexes from place i on
-  abbrev pub NoLaterFrom : ℕ → List ℕ → Type 0
-  NoLaterFrom i firsts = (b : ℕ) → getD firsts (bucketOf b) 0 ≤ placeFrom s rows n b i
+-- no entry is past the place of the first glyph of one of its byte indexes, where the glyphs are those from place p on
+buckets-known : (p : ℕ) (gs : List Glyph) (firsts : List ℕ) → ((k : ℕ) → getD firsts k 0 ≤ p + length gs) → (b : ℕ)
+    → getD (bucketsFrom p gs firsts) (bucketOf b) 0 ≤ placeOf b gs + p
+unfolding bucketsFrom findIdx
+buckets-known p [] firsts h b = omega (arith, h (bucketOf b))
+buckets-known p (g ∷ gs) firsts h b =
+    go (eqb (bucketOf (g .index)) (bucketOf b)) refl (buckets-known (p + 1) gs firsts (λ k. omega (arith, h k)) b)
+  where
+    made : List ℕ
+    made = bucketsFrom (p + 1) gs firsts
 
-  pub firsts-filled : (k : ℕ) → NoLaterFrom n (replicate k n)
-  firsts-filled k b = rw (place-end s rows n b n (omega arith)) (filled-at k n (bucketOf b))
+    go : (t : Bool) → eqb (bucketOf (g .index)) (bucketOf b) ≡ t → getD made (bucketOf b) 0 ≤ placeOf b gs + (p + 1)
+        → getD (set made (bucketOf (g .index)) p) (bucketOf b) 0 ≤ placeOf b (g ∷ gs) + p
+    go true e others = rw (← eqb-true (bucketOf (g .index)) (bucketOf b) e) (omega (arith, put-at made (bucketOf (g .index)) p))
+    go false e others =
+        let other = eqb-false (bucketOf (g .index)) (bucketOf b) e in
+        rw (getD-set-other made (bucketOf (g .index)) (bucketOf b) p 0 (λ same. other (sym same)), ne-eqb (g .index) b (λ same. other (ap bucketOf same)))
+        (omega arith)
 
-  -- the glyph before place j is put
-  pub firsts-put : (j index : ℕ) (firsts : List ℕ) → 0 < j → j ≤ n → n ≤ length rows → index ≡ glyphOf (drop (getD rows (j - 1) 0) s) .index
-      → NoLaterFrom j firsts → NoLaterFrom (j - 1) (set firsts (bucketOf index) (j - 1))
-  firsts-put j index firsts some within held index-is known b = go (eqb (bucketOf index) (bucketOf b)) refl
-    where
-      here : j - 1 < n
-      here = omega arith
+pub firsts-known : (size : ℕ) (gs : List Glyph) → NoLater 0 (firstsOf size gs) gs
+unfolding firstsOf
+firsts-known size gs = buckets-known 0 gs (replicate size (length gs)) (λ k. omega (arith, filled-at size (length gs) k))
 
-      go : (t : Bool) → eqb (bucketOf index) (bucketOf b) ≡ t → getD (set firsts (bucketOf index) (j - 1)) (bucketOf b) 0 ≤ placeFrom s rows n b (j - 1)
-      go true e = rw (← eqb-true (bucketOf index) (bucketOf b) e) (omega (arith, put-at firsts (bucketOf index) (j - 1)))
-      go false e =
-          let other = eqb-false (bucketOf index) (bucketOf b) e in
-          let on : j - 1 + 1 ≡ j = omega arith in
-          rw (
-            getD-set-other firsts (bucketOf index) (bucketOf b) (j - 1) 0 (λ same. other (sym same)),
-            ← place-on s rows n b (j - 1) here held (λ same. other (ap bucketOf (index-is ∙ same))),
-            on,
-          )
-          (known b)
+abbrev Known : List Glyph → Table → Type 0
+Known gs t = NoLater (t .slack) (t .firsts) gs
 
-  pub firsts-done : (firsts : List ℕ) → NoLaterFrom 0 firsts → NoLater 0 firsts (glyphsIn s rows n)
-  firsts-done firsts known b = omega (arith, place-start s rows n b, known b)
+-- a table that is made anew, or whose slack is within its limit
+renewed-known : (gs : List Glyph) (t : Table) → Known gs t → Known gs (renewed gs t) × (renewed gs t .slack ≤ 32)
+unfolding renewed
+renewed-known gs t known = go (ltb 32 (t .slack)) refl
+  where
+    again : Table
+    again = table (firstsOf (length (t .firsts)) gs) 0
 
--- ---- the merge of g into the list of a state m left the list gs₁
+    go : (test : Bool) → ltb 32 (t .slack) ≡ test → Known gs (cond test again t) × (cond test again t .slack ≤ 32)
+    go true e = (firsts-known (length (t .firsts)) gs, omega arith)
+    go false e = (known, ltb-false 32 (t .slack) e)
 
-module _ (m : Merging) (g : Glyph) (gs₁ : List Glyph) (after : After m g gs₁) (firsts : List ℕ) (slack : ℕ) (known : NoLater slack firsts (m .list)) where
+-- ---- a table t, and the merge of g into the list of a state m, which left the list gs₁
+
+module _ (m : Merging) (g : Glyph) (gs₁ : List Glyph) (after : After m g gs₁) (t : Table) (known : Known (m .list) t) where
   abbrev gs : List Glyph
   gs = m .list
 
-  abbrev q : ℕ
-  q = m .next
-
-  lowers : length gs < length gs₁ → NoLater (slack + 1) (lowered firsts (g .index) q) gs₁
+  lowers : length gs < length gs₁ → NoLater (t .slack + 1) (lowered (t .firsts) (g .index) (m .next)) gs₁
   lowers h b = go (eqb (bucketOf (g .index)) (bucketOf b)) refl
     where
       entry : ℕ
       entry = bucketOf (g .index)
 
       low : ℕ
-      low = min (getD firsts entry 0) q
+      low = min (getD (t .firsts) entry 0) (m .next)
 
       -- b shares the entry of the glyph's byte index, or is it
-      shared : entry ≡ bucketOf b → (t : Bool) → eqb (g .index) b ≡ t → low ≤ placeOf b gs₁ + (slack + 1)
+      shared : entry ≡ bucketOf b → (test : Bool) → eqb (g .index) b ≡ test → low ≤ placeOf b gs₁ + (t .slack + 1)
       shared same true e = rw (← eqb-true (g .index) b e) (omega (arith, known (g .index), after .own h))
       shared same false e = rw same (omega (arith, known b, after .other h b (eqb-false (g .index) b e)))
 
-      go : (t : Bool) → eqb entry (bucketOf b) ≡ t → getD (lowered firsts (g .index) q) (bucketOf b) 0 ≤ placeOf b gs₁ + (slack + 1)
+      go : (test : Bool) → eqb entry (bucketOf b) ≡ test → getD (lowered (t .firsts) (g .index) (m .next)) (bucketOf b) 0 ≤ placeOf b gs₁ + (t .slack + 1)
       go true e =
           let same = eqb-true entry (bucketOf b) e in
-          rw (← same) (omega (arith, put-at firsts entry low, shared same (eqb (g .index) b) refl))
+          rw (← same) (omega (arith, put-at (t .firsts) entry low, shared same (eqb (g .index) b) refl))
       go false e =
           let other = eqb-false entry (bucketOf b) e in
-          rw (getD-set-other firsts entry (bucketOf b) low 0 (λ same. other (sym same)))
+          rw (getD-set-other (t .firsts) entry (bucketOf b) low 0 (λ same. other (sym same)))
           (omega (arith, known b, after .other h b (λ same. other (ap bucketOf same))))
 
-  stays : length gs₁ ≤ length gs → NoLater (slack + (length gs - length gs₁)) firsts gs₁
+  stays : length gs₁ ≤ length gs → NoLater (t .slack + (length gs - length gs₁)) (t .firsts) gs₁
   stays h b = omega (arith, known b, after .shorter h b)
 
-  pub firsts-follow : (before count : ℕ) → length gs ≡ before → length gs₁ ≡ count → (firsts₁ : List ℕ) (r : ℕ)
-      → (before < count → (firsts₁ ≡ lowered firsts (g .index) q) × (r ≡ slack + 1)) × (count ≤ before → (firsts₁ ≡ firsts) × (r ≡ slack + (before - count)))
-      → NoLater r firsts₁ gs₁
-  firsts-follow before count before-is count-is firsts₁ r did = go (ltb before count) refl
+  after-known : Known gs₁ (tableAfter (length gs) (length gs₁) (g .index) (m .next) t)
+  unfolding tableAfter
+  after-known = go (ltb (length gs) (length gs₁)) refl
     where
-      go : (t : Bool) → ltb before count ≡ t → NoLater r firsts₁ gs₁
-      go true e =
-          let h : before < count = ltb-true before count e in
-          rw (did .0 h .0, did .0 h .1) (lowers (omega arith))
-      go false e =
-          let h : count ≤ before = ltb-false before count e in
-          rw (did .1 h .0, did .1 h .1, ← before-is, ← count-is) (stays (omega arith))
+      go : (test : Bool) → ltb (length gs) (length gs₁) ≡ test
+          → Known gs₁ (cond test (table (lowered (t .firsts) (g .index) (m .next)) (t .slack + 1)) (table (t .firsts) (t .slack + (length gs - length gs₁))))
+      go true e = lowers (ltb-true (length gs) (length gs₁) e)
+      go false e = stays (ltb-false (length gs) (length gs₁) e)
+
+  -- t₁ is the table after the step, and t₂ after that
+  pub next-known : (old count index : ℕ) → length gs ≡ old → length gs₁ ≡ count → index ≡ g .index → (t₁ t₂ : Table) → t₁ ≡ tableAfter old count index (m .next) t → t₂ ≡ renewed gs₁ t₁
+      → Known gs₁ t₂ × (t₂ .slack ≤ 32)
+  next-known old count index old-is count-is index-is t₁ t₂ e f = rw (f, e, ← old-is, ← count-is, index-is) (renewed-known gs₁ _ after-known)

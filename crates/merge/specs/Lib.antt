@@ -1,3 +1,4 @@
+pub mod Firsts
 pub mod Merged
 pub mod Source
 pub mod Steps

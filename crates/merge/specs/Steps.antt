@@ -1,5 +1,5 @@
 -- A span's merge on its way, as the code holds it, beside the definitions' state. Definitions only.
-use Prim.Native.Nat.{ℕ, _+_, _≤_, _<_, min, _/_}
+use Prim.Native.Nat.{ℕ, _≤_, _<_}
 use mathlib.Core.Path.{_≡_}
 use mathlib.Core.Bool.{true}
 use mathlib.Core.List.{List, [], _∷_}
@@ -9,8 +9,9 @@ use Rattle.labels.specs.Job.{limits}
 use Rattle.labels.specs.declared.Glyph.{Glyph}
 use Rattle.labels.specs.declared.Span.{Span}
 use Rattle.labels.specs.Outcome.{Outcome, refused, given}
-use Rattle.labels.specs.Merge.{Merging, placeOf, spanContains, replaceFirst, mergeDone}
+use Rattle.labels.specs.Merge.{Merging, spanContains, replaceFirst, mergeDone}
 use Rattle.merge.specs.Merged.{glyphsIn, mergedOf, placesIn, Held}
+use Rattle.merge.specs.Firsts.{NoLater}
 use Rattle.merge.specs.declared.Merge.{Merge}
 use Rattle.merge.specs.declared.chunk.GlyphRows.{GlyphRows}
 use Rattle.merge.specs.declared.step.Progress.{Progress}
@@ -65,18 +66,6 @@ pub record Stepped (at : Progress) (r : Step) (s rows marks marks₁ : List ℕ)
   pub within : Within at r
   pub stands : (marks₀ positions : List ℕ) → Below (at .stamp) marks₀ → marks ≡ stamped (at .stamp) positions marks₀
       → Stands r s rows (at .stamp) marks₀ marks₁ (o positions)
-
--- the entry of a byte index in the table of first places: 32 neighbours share one
-abbrev pub bucketOf : ℕ → ℕ
-bucketOf b = b / 32
-
--- no entry of the table is more than `slack` past the place of the first glyph of one of its byte indexes. Past the table's end it counts as 0
-abbrev pub NoLater : ℕ → List ℕ → List Glyph → Type 0
-NoLater slack firsts gs = (b : ℕ) → getD firsts (bucketOf b) 0 ≤ placeOf b gs + slack
-
--- the table with the entry of byte index b no later than `place`
-abbrev pub lowered : List ℕ → ℕ → ℕ → List ℕ
-lowered firsts b place = set firsts (bucketOf b) (min (getD firsts (bucketOf b) 0) place)
 
 -- what a step asks for: the lent arrays have their sizes, the state is within its limits, and the table is as late as its slack allows
 pub record Ready (at : Progress) (s rows marks firsts : List ℕ) : Type 0 where

@@ -27,7 +27,8 @@ ghost use Rattle.labels.specs.Decode.{glyphOf, glyphBytes, partsOf};
 ghost use Rattle.labels.specs.Merge.{mergeSpan, mergeGlyphs};
 ghost use Rattle.job_rows.specs.Rows.{partsIn};
 ghost use Rattle.merge.specs.Merged.{glyphsIn, mergedOf, mergedInto, spanPlaces, Held, FewGlyphs, Mergeable};
-ghost use Rattle.merge.specs.Steps.{NoLater, Begun, OwnFew, Ended, SpanEnded};
+ghost use Rattle.merge.specs.Firsts.{NoLater};
+ghost use Rattle.merge.specs.Steps.{Begun, OwnFew, Ended, SpanEnded};
 
 // The entries of a table of first places for the longest text.
 const BUCKETS: usize = Job::TEXT / BUCKET;

@@ -4,10 +4,10 @@
 // or removal: the search begins earlier by the table's slack, which is how many glyphs were inserted or removed since.
 use crate::glyph::index_at;
 ghost use mathlib.Core.Path.{_≡_};
-ghost use Prim.Native.Nat.{_+_, _-_, _≤_, _<_};
+ghost use Prim.Native.Nat.{_-_, _≤_};
 ghost use lib.ListN.{length, getD, set, replicate};
 ghost use Rattle.merge.specs.Merged.{glyphsIn};
-ghost use Rattle.merge.specs.Steps.{bucketOf, NoLater, lowered};
+ghost use Rattle.merge.specs.Firsts.{bucketOf, firstsOf, lowered, table, tableAfter, renewed};
 
 // How many neighbouring byte indexes share an entry.
 pub const BUCKET: usize = 32;
@@ -55,7 +55,7 @@ fn fill_firsts(firsts: &mut [u16], place: u16)
 // The glyphs are then put from the last to the first, so that the first of a byte index stays.
 pub fn put_firsts(s: &[u8], rows: &[u32], count: usize, firsts: &mut [u16])
     requires { ⌜ (count ≤ length (now rows)) × (count ≤ 1024) ⌝ }
-    ensures { λ _. ⌜ NoLater 0 (now (firsts .exit)) (glyphsIn (now (s .entry)) (now (rows .entry)) count) ⌝ }
+    ensures { λ _. ⌜ now (firsts .exit) ≡ firstsOf (length (now (firsts .entry))) (glyphsIn (now (s .entry)) (now (rows .entry)) count) ⌝ }
 {
     fill_firsts(firsts, count as u16);
     let mut i = count;
@@ -88,8 +88,7 @@ pub fn follow_step(
     slack: usize,
 ) -> usize
     requires { ⌜ (old ≤ 1024) × (place ≤ 1024) × (slack ≤ 1024) ⌝ }
-    ensures { λ r. ⌜ (old < count → (now (firsts .exit) ≡ lowered (now (firsts .entry)) index place) × (r ≡ slack + 1))
-        × (count ≤ old → (now (firsts .exit) ≡ now (firsts .entry)) × (r ≡ slack + (old - count))) ⌝ }
+    ensures { λ r. ⌜ table (now (firsts .exit)) r ≡ tableAfter old count index place (table (now (firsts .entry)) slack) ⌝ }
 {
     if old < count {
         lower_first(firsts, index, place as u16);
@@ -101,8 +100,9 @@ pub fn follow_step(
 
 // The table for a list of `count` glyphs, made anew if its slack is past its limit; the result is its slack then.
 pub fn renew_firsts(s: &[u8], rows: &[u32], count: usize, firsts: &mut [u16], slack: usize) -> usize
-    requires { ⌜ (count ≤ length (now rows)) × (count ≤ 1024) × NoLater slack (now firsts) (glyphsIn (now s) (now rows) count) ⌝ }
-    ensures { λ r. ⌜ (r ≤ 32) × NoLater r (now (firsts .exit)) (glyphsIn (now (s .entry)) (now (rows .entry)) count) ⌝ }
+    requires { ⌜ (count ≤ length (now rows)) × (count ≤ 1024) ⌝ }
+    ensures { λ r. ⌜ table (now (firsts .exit)) r
+        ≡ renewed (glyphsIn (now (s .entry)) (now (rows .entry)) count) (table (now (firsts .entry)) slack) ⌝ }
 {
     if SLACK < slack {
         put_firsts(s, rows, count, firsts);

@@ -8,10 +8,11 @@ use Rattle.labels.specs.declared.Span.{Span}
 use Rattle.labels.specs.Decode.{glyphOf}
 use Rattle.labels.specs.Merge.{Merging}
 use Rattle.merge.specs.Merged.{glyphsIn, mergedInto}
+use Rattle.merge.specs.Firsts.{table}
 use Rattle.merge.specs.Steps.{stamped, Below, Ready}
 use Rattle.merge.specs.declared.step.Progress.{Progress}
 use Rattle.merge.proofs.Moved.{glyphs-count}
-use Rattle.merge.proofs.Places.{firsts-follow}
+use Rattle.merge.proofs.Places.{next-known}
 use Rattle.merge.proofs.Turns.{Left, Turn, left-on, step-after, left-halted, left-done}
 use borrow.Author.Needs.{needs}
 use native.Mathlib.Omega.{arith}
@@ -83,25 +84,10 @@ turn c =
 
 renew-firsts-requires : tie.Need-renew-firsts-requires Inv-loop μ-loop
 renew-firsts-requires c κs =
-    let follow = c .before .before .before .before .before in
-    let index = follow .before in
-    let next = index .before .before .before in
-    let did = next .before .before in
-    let inside = did .before .before .before .before in
-    let a = inside .before .before .before .before .args in
-    let l = inside .before .loop in
-    let s = a .s .now in
-    let at₁ = next .next .given .0 .0 in
-    let rows₁ = did .merge-glyph .last .1 .1 .0 in
-    let fits = (rw (next .next .given .1) at (did .merge-glyph .ensures .within)) .0 in
-    let held : l .at .count ≤ length (l .rows) = omega (arith, l .inv .ready .row-room, l .inv .ready .fits .few) in
-    let held₁ : at₁ .count ≤ length rows₁ = omega (arith, did .merge-glyph .ensures .row-room, fits .few) in (
-      held₁,
-      fits .few,
-      firsts-follow _ (glyphOf (drop (l .row) s)) (glyphsIn s rows₁ (at₁ .count)) (step-after (turn did) at₁ (next .next .given .1)) (l .firsts) (l .at .slack) (l .inv .ready .known)
-          (l .at .count) (at₁ .count) (glyphs-count s (l .rows) (l .at .count) held) (glyphs-count s rows₁ (at₁ .count) held₁)
-          (follow .follow-step .last .0) (follow .follow-step .result) (rw (index .index-at .ensures) at (follow .follow-step .ensures)),
-    )
+    let next = c .before .before .before .before .before .before .before .before .before in
+    let did = next .before .before .merge-glyph .ensures in
+    let fits = (rw (next .next .given .1) at (did .within)) .0 in
+    (omega (arith, did .row-room, fits .few), fits .few)
 
 enum-known-k : tie.Need-enum-known-k Inv-loop μ-loop
 enum-known-k c = search needs
@@ -144,13 +130,20 @@ loop-again c =
     let a = inside .before .before .before .before .args in
     let l = inside .before .loop in
     let some = inside .loop-test .taken in
-    let on = left-on (turn did) (next .next .given .0 .0) (next .next .given .1) in
-    let within = rw (next .next .given .1) at (did .merge-glyph .ensures .within) in record {
+    let s = a .s .now in
+    let index = follow .before .index-at in
+    let at₁ = next .next .given .0 .0 in
+    let rows₁ = did .merge-glyph .last .1 .1 .0 in
+    let on = left-on (turn did) at₁ (next .next .given .1) in
+    let within = rw (next .next .given .1) at (did .merge-glyph .ensures .within) in
+    let table₁ = next-known _ (glyphOf (drop (l .row) s)) (glyphsIn s rows₁ (at₁ .count)) (step-after (turn did) at₁ (next .next .given .1)) (table (l .firsts) (l .at .slack)) (l .inv .ready .known)
+    (l .at .count) (at₁ .count) (index .result) (glyphs-count s (l .rows) (l .at .count) (omega (arith, l .inv .ready .row-room, l .inv .ready .fits .few))) (glyphs-count s rows₁ (at₁ .count) (omega (arith, did .merge-glyph .ensures .row-room, within .0 .few)))
+    (index .ensures) _ _ (follow .follow-step .ensures) (renew .renew-firsts .ensures) in record {
       ready = record {
         row-room = did .merge-glyph .ensures .row-room;
         mark-room = did .merge-glyph .ensures .mark-room;
         fits = record { few = within .0 .few; placed = within .0 .placed };
-        known = renew .renew-firsts .ensures .1;
+        known = table₁ .0;
       };
       same = within .1 ∙ l .inv .same;
       few = omega (arith, l .inv .few);
@@ -158,7 +151,7 @@ loop-again c =
       earlier = l .inv .earlier;
       rest = record { positions = on .positions; marked = on .marked; rest = on .rest };
       sized = renew .renew-firsts .kept .1 .1 .1 .0 ∙ follow .follow-step .kept .0 ∙ l .inv .sized;
-      fresh = renew .renew-firsts .ensures .0;
+      fresh = table₁ .1;
     }
 
 same-length-2 : tie.Need-same-length-2 Inv-loop μ-loop

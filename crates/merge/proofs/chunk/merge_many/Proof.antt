@@ -1,5 +1,6 @@
 -- `merge::chunk::merge_many` meets its contract. Assumes nothing.
 use borrow.Author.Needs.{needs}
+use Rattle.merge.proofs.Places.{firsts-known}
 use Rattle.merge.proofs.chunk.merge_many.Statement.{statement}
 use Rattle.merge.proofs.chunk.merge_many.Tie as tie
 
@@ -14,8 +15,9 @@ slice-aggregate-merge-glyphs c = search needs
 
 merge-glyphs-requires : tie.Need-merge-glyphs-requires
 merge-glyphs-requires c κs =
-    let start = c .before .before .before .before .before .before .before .before .before in
-    (start .pre .0, start .pre .1, c .before .before .before .before .put-firsts .ensures)
+    let put = c .before .before .before .before in
+    let start = put .before .before .before .before .before in
+    (start .pre .0, start .pre .1, rw (put .put-firsts .ensures) (firsts-known _ _))
 
 returns : tie.Need-returns
 returns c = c .before .merge-glyphs .ensures

@@ -1,16 +1,15 @@
 -- `merge::chunk::process_chunk` meets its contract. The loop's invariant: the spans left, merged into the list as it is, give the chunk's merge. Assumes nothing.
 use Prim.Native.Nat.{ℕ, _+_, _-_, _≤_}
-use mathlib.Core.Path.{_≡_, sym}
+use mathlib.Core.Path.{_≡_}
 use mathlib.Core.List.{foldl}
 use lib.ListN.{length, drop, length-replicate}
 use Rattle.labels.specs.Outcome.{given}
 use Rattle.labels.specs.Merge.{mergeSpan, mergeGlyphs}
 use Rattle.labels.specs.Lists.{All}
-use Rattle.laws.proofs.IfGiven.{of-given}
 use Rattle.job_rows.specs.Rows.{partsIn}
 use Rattle.merge.specs.Merged.{glyphsIn, mergedOf, FewGlyphs}
 use Rattle.merge.specs.Steps.{Below}
-use Rattle.merge.proofs.Marks.{below-clear, below-stamped}
+use Rattle.merge.proofs.Marks.{below-clear, ended-below}
 use Rattle.merge.proofs.Spans.{spans-start, spans-on, spans-stop, spans-done, few-here, few-on}
 use borrow.Author.Needs.{needs}
 use native.Mathlib.Omega.{arith}
@@ -92,7 +91,7 @@ loop-again c =
     let s = a .s .now in (
       did .ensures .row-room,
       did .ensures .mark-room,
-      rw (of-given _ _ _ (did .ensures .marked) (sym (rw (c .before .n .given .1) at (did .ensures .is)))) (below-stamped (l .i + 1) (l .marks) (l .inv .2) _),
+      ended-below (did .ensures) (c .before .n .given .1) (l .inv .2),
       rw (c .before .n .given .1) at (did .ensures .held),
       omega arith,
       few-on s (a .spans .now) (l .i) (omega arith) (l .inv .5),

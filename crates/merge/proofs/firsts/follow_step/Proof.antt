@@ -1,7 +1,8 @@
 -- `merge::firsts::follow_step` meets its contract. Assumes nothing.
-use mathlib.Core.Path.{refl}
 use native.Mathlib.Omega.{arith}
 use borrow.Author.Needs.{needs}
+use borrow.Author.Tests.{lt-ltb, le-ltb}
+use Rattle.merge.specs.Firsts.{tableAfter}
 use Rattle.merge.proofs.firsts.follow_step.Statement.{statement}
 use Rattle.merge.proofs.firsts.follow_step.Tie as tie
 
@@ -18,13 +19,17 @@ same-length : tie.Need-same-length
 same-length c = search needs
 
 returns : tie.Need-returns
-returns c = (λ h. (c .before .before .lower-first .ensures, refl), λ h. absurd (omega arith))
+unfolding tableAfter
+returns c =
+    let a = c .before .before .before .before .before .before .args in
+    rw (lt-ltb (a .old) (a .count) (omega arith), c .before .before .lower-first .ensures)
 
 add-result-2 : tie.Need-add-result-2
 add-result-2 c = search needs
 
 returns-2 : tie.Need-returns-2
-returns-2 c = (λ h. absurd (omega arith), λ h. (refl, refl))
+unfolding tableAfter
+returns-2 c = let a = c .before .before .args in rw (le-ltb (a .old) (a .count) (omega arith))
 
 pub follow-step-spec : {M : Type 1} → statement M
 follow-step-spec =

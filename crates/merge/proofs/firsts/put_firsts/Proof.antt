@@ -2,14 +2,20 @@
 use Prim.Native.Nat.{_≤_}
 use mathlib.Core.Path.{_≡_, refl, _∙_}
 use native.Mathlib.Omega.{arith}
-use lib.ListN.{length}
+use lib.ListN.{length, drop, drop-of-length-le}
 use borrow.Author.Needs.{needs}
-use Rattle.merge.proofs.Places.{NoLaterFrom, firsts-filled, firsts-put, firsts-done}
+use Rattle.merge.specs.Merged.{glyphsIn}
+use Rattle.merge.specs.Firsts.{bucketsFrom, firstsOf}
+use Rattle.merge.proofs.Moved.{glyphs-count}
+use Rattle.merge.proofs.Places.{bucket-put}
 use Rattle.merge.proofs.firsts.put_firsts.Statement.{statement}
 use Rattle.merge.proofs.firsts.put_firsts.Tie as tie
 
 abbrev Inv-loop : tie.InvT-loop
-Inv-loop s rows count firsts₀ i₀ firsts i = (i ≤ count) × (length firsts ≡ length firsts₀) × NoLaterFrom s rows count i firsts
+Inv-loop s rows count firsts₀ i₀ firsts i =
+    (i ≤ count)
+    × (length firsts ≡ length firsts₀)
+    × (firsts ≡ bucketsFrom i (drop i (glyphsIn s rows count)) firsts₀)
 
 abbrev μ-loop : tie.MeasureT-loop
 μ-loop s rows count firsts₀ i₀ firsts i = i
@@ -20,11 +26,18 @@ cast-fill-firsts c = search needs
 fill-firsts-requires : tie.Need-fill-firsts-requires Inv-loop μ-loop
 fill-firsts-requires c κs = search needs
 
+-- the list has as many glyphs as are counted
+counted : (c : tie.Start Inv-loop μ-loop) → length (glyphsIn (c .args .s .now) (c .args .rows .now) (c .args .count)) ≡ c .args .count
+counted c = glyphs-count (c .args .s .now) (c .args .rows .now) (c .args .count) (c .pre .0)
+
 loop-holds : tie.Need-loop-holds Inv-loop μ-loop
+unfolding bucketsFrom
 loop-holds c =
-    let a = c .before .before .before .before .before .before .before .args in
-    let filled = c .before .before .fill-firsts in
-    (omega arith, refl, rw (filled .ensures) (firsts-filled (a .s .now) (a .rows .now) (a .count) (length (a .firsts .now))))
+    let start = c .before .before .before .before .before .before .before in
+    let a = start .args in
+    let gs = glyphsIn (a .s .now) (a .rows .now) (a .count) in
+    let all : length gs ≤ a .count = omega (arith, counted start) in
+    (omega arith, refl, rw (drop-of-length-le gs all))
 
 sub-i : tie.Need-sub-i Inv-loop μ-loop
 sub-i c = search needs
@@ -56,18 +69,20 @@ loop-again c =
     let l = loop .loop in (
       omega arith,
       put .kept .0 ∙ l .inv .1,
-      rw (put .ensures) (firsts-put (a .s .now) (a .rows .now) (a .count) (l .i) (read .result) (l .firsts) (omega arith) (omega arith) (omega arith) (read .ensures) (l .inv .2)),
+      rw (put .ensures, l .inv .2) (bucket-put (a .s .now) (a .rows .now) (a .count) (l .i) (read .result) _ (omega arith) (omega arith) (omega arith) (read .ensures)),
     )
 
 same-length : tie.Need-same-length Inv-loop μ-loop
 same-length c = search needs
 
 returns : tie.Need-returns Inv-loop μ-loop
+unfolding firstsOf
 returns c =
-    let a = c .before .before .before .before .before .before .before .before .before .args in
+    let start = c .before .before .before .before .before .before .before .before .before in
+    let filled = c .before .before .before .before .fill-firsts in
     let l = c .before .loop in
     let e : l .i ≡ 0 = omega arith in
-    firsts-done (a .s .now) (a .rows .now) (a .count) (l .firsts) (rw e at (l .inv .2))
+    rw (counted start) (rw (e, filled .ensures) at (l .inv .2))
 
 pub put-firsts-spec : {M : Type 1} → statement M
 put-firsts-spec =

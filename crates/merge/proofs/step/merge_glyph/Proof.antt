@@ -19,9 +19,7 @@ span-contains-requires : tie.Need-span-contains-requires
 span-contains-requires c κs = search needs
 
 insert-next-requires : tie.Need-insert-next-requires
-insert-next-requires c κs =
-    let ready = c .before .before .before .before .before .before .before .pre in
-    (ready .row-room, ready .fits, c .before .if1 .taken)
+insert-next-requires c κs = search needs
 
 -- the list is within its rows
 held : (c : tie.Start) → c .args .at .count ≤ length (c .args .rows .now)
