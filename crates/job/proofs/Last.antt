@@ -1,10 +1,9 @@
 -- The last turn of a walk, behind which no place is taken. Assumes nothing.
-use Prim.Native.Nat.{ℕ, _+_, _-_, _<_, _≤_}
+use Prim.Native.Nat.{ℕ, _+_, _-_, _<_, _≤_, min}
 use mathlib.Core.Path.{_≡_, refl, sym, _∙_}
 use mathlib.Core.Bool.{Bool, false, not}
 use mathlib.Core.List.{List}
-use lib.ListN.{drop}
-use lib.Seq.{drop-drop}
+use lib.ListN.{length, drop}
 use Rattle.labels.specs.Bytes.{each}
 use Rattle.job_rows.proofs.Walks.{each-on, each-done}
 
@@ -13,5 +12,5 @@ pub each-last : (size : List ℕ → ℕ) (s row : List ℕ) (p n : ℕ) → row
     → each size ok (n - 1) (drop p s) ≡ each size ok n (drop p s)
 each-last size s row p n row-is h ok t t-is passes last =
     each-done size ok (n - 1) (drop p s) last
-    ∙ sym (each-done size ok (n - 1) (drop (p + size row) s) last)
-    ∙ each-on size s row p n row-is h ok t t-is passes (size row) (p + size row) refl (sym (drop-drop (size row) p s))
+    ∙ sym (each-done size ok (n - 1) (drop (min (p + size row) (length s)) s) last)
+    ∙ each-on size s row p n row-is h ok t t-is passes (size row) _ refl refl

@@ -1,15 +1,15 @@
 -- Spans in order: one turn and the end of the walk over them. Assumes nothing.
-use Prim.Native.Nat.{ℕ, zero, suc, _+_, _-_, _<_, _≤_}
+use Prim.Native.Nat.{ℕ, zero, suc, _+_, _-_, _<_, _≤_, min}
 use mathlib.Core.Path.{_≡_, refl, sym, ap, _∙_}
 use mathlib.Core.Bool.{Bool, true, false, _&&_}
 use mathlib.Core.List.{List, _∷_, map}
 use lib.ListN.{length, drop}
-use lib.Seq.{drop-drop}
 use lib.Dec.{leb}
 use Rattle.labels.specs.Bytes.{be, rows}
 use Rattle.labels.specs.Job.{SpanParts}
 use Rattle.labels.specs.Decode.{spanSize, spanOf, partsOf, spanCount, spanBytes, chunkOf}
 use Rattle.labels.specs.Check.{ordered, spansOk}
+use Rattle.wire.proofs.Places.{after-drops}
 use Rattle.job_rows.proofs.Walks.{rows-turn, rows-done}
 
 -- a span from `start` to `end` stands behind `from`, in a text of n bytes
@@ -29,16 +29,16 @@ module _ (n from start end left p : ℕ) (s span : List ℕ) (span-is : span ≡
   pub ordered-stop : inOrder n from start end ≡ false → ordered n from (rows spanSize spanOf left (drop p s)) ≡ false
   ordered-stop fails = turn ∙ ap (λ b. b && ordered n end (rows spanSize spanOf (left - 1) (drop (spanSize (drop p s)) (drop p s)))) fails
 
-  pub ordered-on : inOrder n from start end ≡ true → (k q : ℕ) → k ≡ spanSize span → drop q s ≡ drop k (drop p s)
+  pub ordered-on : inOrder n from start end ≡ true → (k q : ℕ) → k ≡ spanSize span → q ≡ min (p + k) (length s)
       → ordered n end (rows spanSize spanOf (left - 1) (drop q s)) ≡ ordered n from (rows spanSize spanOf left (drop p s))
-  ordered-on passes k q k-is q-is = rw (turn, passes, q-is, k-is, span-is)
+  ordered-on passes k q k-is q-is = rw (turn, passes, after-drops p k s q-is, k-is, span-is)
 
   -- no place is taken behind the last
   pub ordered-last : inOrder n from start end ≡ true → left - 1 ≤ 0 → ordered n end (rows spanSize spanOf (left - 1) (drop p s)) ≡ ordered n from (rows spanSize spanOf left (drop p s))
   ordered-last passes last =
       ordered-done n end (left - 1) (drop p s) last
-      ∙ sym (ordered-done n end (left - 1) (drop (p + spanSize span) s) last)
-      ∙ ordered-on passes (spanSize span) (p + spanSize span) refl (sym (drop-drop (spanSize span) p s))
+      ∙ sym (ordered-done n end (left - 1) (drop (min (p + spanSize span) (length s)) s) last)
+      ∙ ordered-on passes (spanSize span) _ refl refl
 
 -- the spans of a chunk
 spans-rows : (n : ℕ) (bs : List ℕ) → map (λ (p : SpanParts). p .span) (rows spanSize partsOf n bs) ≡ rows spanSize spanOf n bs

@@ -1,5 +1,5 @@
 -- Rows by their numbers, and the places of the spans as they are found. Assumes nothing.
-use Prim.Native.Nat.{ℕ, zero, suc, _+_, _-_, _*_, _≤_, _<_}
+use Prim.Native.Nat.{ℕ, zero, suc, _+_, _-_, _*_, _≤_, _<_, min}
 use mathlib.Core.Path.{_≡_, refl, sym, ap, _∙_}
 use mathlib.Core.Bool.{true}
 use mathlib.Core.List.{List, [], _∷_, _++_, map, map-append, append-nil}
@@ -16,6 +16,7 @@ use Rattle.labels.specs.Job.{SpanParts, blankFont, fontAt}
 use Rattle.labels.specs.Decode.{fontBytes, fontOf, spanSize, partsOf}
 use Rattle.laws.proofs.All.{and-left, and-right}
 use Rattle.laws.proofs.Records.{length-rows, rows-at}
+use Rattle.wire.proofs.Places.{after-drops}
 use Rattle.job_rows.proofs.Walks.{rows-turn, rows-done}
 use Rattle.job_rows.specs.Rows.{fontsIn, partsIn}
 
@@ -68,14 +69,14 @@ module _ (s : List ℕ) where
   found-start l n p = let e : n - 0 ≡ n = omega arith in rw e
 
   pub found-turn : (l : List ℕ) (n i p q : ℕ) (row : List ℕ) (k : ℕ) → i < n → n ≡ length l
-      → row ≡ drop p s → k ≡ spanSize row → drop q s ≡ drop k (drop p s)
+      → row ≡ drop p s → k ≡ spanSize row → q ≡ min (p + k) (length s)
       → found (set l i p) n (i + 1) q ≡ found l n i p
   unfolding partsIn
   found-turn l n i p q row k h e er ek eq =
       let h₁ : i < length l = omega arith in
       let h₂ : 0 < n - i = omega arith in
       let e₁ : n - (i + 1) ≡ n - i - 1 = omega arith in
-      rw (e₁, eq, ek, er, rows-turn spanSize partsOf (n - i) (drop p s) h₂, add-one i, take-suc-set l i p h₁, map-append)
+      rw (e₁, after-drops p k s eq, ek, er, rows-turn spanSize partsOf (n - i) (drop p s) h₂, add-one i, take-suc-set l i p h₁, map-append)
       (append-snoc (partsIn s (take i l)) (partsOf (drop p s)) (rows spanSize partsOf (n - i - 1) (drop (spanSize (drop p s)) (drop p s))))
 
   pub found-end : (l : List ℕ) (n i p : ℕ) → n ≤ i → n ≡ length l → found l n i p ≡ partsIn s l

@@ -1,15 +1,16 @@
 -- One turn and the end of a walk over records, for any reader, size and test. Assumes nothing.
-use Prim.Native.Nat.{ℕ, zero, suc, _+_, _-_, _<_, _≤_}
+use Prim.Native.Nat.{ℕ, zero, suc, _+_, _-_, _<_, _≤_, min}
 use mathlib.Core.Path.{_≡_, refl, sym, ap}
 use mathlib.Core.Bool.{Bool, true, false, not, _&&_}
 use mathlib.Core.List.{List, [], _∷_}
 use native.Mathlib.Nat.{not-suc-le-zero}
 use native.Mathlib.Omega.{arith}
-use lib.ListN.{drop}
+use lib.ListN.{length, drop}
 use lib.Dec.{eqb}
 use borrow.Author.Tests.{ne-eqb, not-true, not-false}
 use Rattle.labels.specs.Lists.{all, isEmpty}
 use Rattle.labels.specs.Bytes.{rows, sizes, each}
+use Rattle.wire.proofs.Places.{after-drops}
 
 less-one : (n : ℕ) → suc n - 1 ≡ n
 less-one n = omega arith
@@ -39,10 +40,10 @@ module _ {A : Type 0} (size : List ℕ → ℕ) (read : List ℕ → A) where
 -- a walk over a slice s stands at p; `row` is what follows there, and n records are left
 module _ (size : List ℕ → ℕ) (s row : List ℕ) (p n : ℕ) (row-is : row ≡ drop p s) (h : 0 < n) where
   -- the record takes k bytes, and q is the place behind it
-  module _ (k q : ℕ) (k-is : k ≡ size row) (q-is : drop q s ≡ drop k (drop p s)) where
+  module _ (k q : ℕ) (k-is : k ≡ size row) (q-is : q ≡ min (p + k) (length s)) where
     pub sizes-on : (done : ℕ) → done + k + sizes size (n - 1) (drop q s) ≡ done + sizes size n (drop p s)
     unfolding sizes
-    sizes-on done = rw (q-is, k-is, row-is) (go n h)
+    sizes-on done = rw (after-drops p k s q-is, k-is, row-is) (go n h)
       where
         go : (n : ℕ) → 0 < n → done + size (drop p s) + sizes size (n - 1) (drop (size (drop p s)) (drop p s)) ≡ done + sizes size n (drop p s)
         go zero h = absurd (not-suc-le-zero h)
@@ -53,10 +54,10 @@ module _ (size : List ℕ → ℕ) (s row : List ℕ) (p n : ℕ) (row-is : row 
     tested : ok (drop p s) ≡ t
     tested = rw (t-is, row-is)
 
-    pub each-on : not t ≡ false → (k q : ℕ) → k ≡ size row → drop q s ≡ drop k (drop p s)
+    pub each-on : not t ≡ false → (k q : ℕ) → k ≡ size row → q ≡ min (p + k) (length s)
         → each size ok (n - 1) (drop q s) ≡ each size ok n (drop p s)
     unfolding each
-    each-on passes k q k-is q-is = rw (q-is, k-is, row-is) (go n h)
+    each-on passes k q k-is q-is = rw (after-drops p k s q-is, k-is, row-is) (go n h)
       where
         go : (n : ℕ) → 0 < n → each size ok (n - 1) (drop (size (drop p s)) (drop p s)) ≡ each size ok n (drop p s)
         go zero h = absurd (not-suc-le-zero h)

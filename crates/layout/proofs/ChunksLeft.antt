@@ -1,5 +1,5 @@
 -- The loop over the chunks of a checked job: what is known before each turn, and what a turn, a refusal and the end keep. Assumes nothing.
-use Prim.Native.Nat.{ℕ, zero, suc, _+_, _-_, _*_, _≤_, _<_}
+use Prim.Native.Nat.{ℕ, zero, suc, _+_, _-_, _*_, _≤_, _<_, min}
 use mathlib.Core.Path.{_≡_, refl, sym, ap, subst, _∙_}
 use mathlib.Core.Bool.{Bool, true, _&&_}
 use mathlib.Core.List.{List, [], _∷_, flatMap, foldl}
@@ -24,6 +24,7 @@ use Rattle.labels.specs.Answer.{answerHeadSize}
 use Rattle.labels.specs.Layout.{Progress, beginning, layoutChunk}
 use Rattle.job_rows.specs.Rows.{jobAt, chunkAt}
 use Rattle.job_rows.proofs.Walks.{rows-turn, rows-done}
+use Rattle.wire.proofs.Places.{after-drops}
 use Rattle.wire.proofs.Splice.{splice-none}
 use Rattle.chunk.specs.declared.progress.Progress as chunk
 use Rattle.chunk.specs.declared.progress.NextChunk.{NextChunk}
@@ -171,7 +172,7 @@ module _ (s : List ℕ) (job : Job) (before : chunk.Progress) (at left : ℕ) (h
       refused-laying y = (sym (ap (laidFrom (before .length)) refused-laid) ∙ y .laid, λ e. subst (FitsFrom (length old) (before .length)) refused-laid (y .put e .fits))
 
     -- the chunk is laid out and takes `size` bytes, and q is the place behind it
-    module _ (after : chunk.Progress) (r-is : r ≡ Going after) (size q : ℕ) (size-is : size ≡ chunkSize (drop at s)) (q-is : (drop q s ≡ drop size (drop at s)) × (q ≤ length s)) where
+    module _ (after : chunk.Progress) (r-is : r ≡ Going after) (size q : ℕ) (size-is : size ≡ chunkSize (drop at s)) (q-is : q ≡ min (at + size) (length s)) where
       went : (st : Progress) × (chunkLaid s next ≡ given st) × (after ≡ progressFrom (before .length) st)
       went = given-of (before .length) (chunkLaid s next) after (sym r-is ∙ b .laid)
 
@@ -179,7 +180,7 @@ module _ (s : List ℕ) (job : Job) (before : chunk.Progress) (at left : ℕ) (h
       st = went .0
 
       behind : drop q s ≡ drop (chunkSize (drop at s)) (drop at s)
-      behind = q-is .0 ∙ ap (λ (n : ℕ). drop n (drop at s)) size-is
+      behind = after-drops at size s q-is ∙ ap (λ (n : ℕ). drop n (drop at s)) size-is
 
       left-bytes : bytesLeft s at left ≡ chunkLeast here + bytesLeft s q (left - 1)
       left-bytes = rw (left-is, behind) refl
@@ -195,7 +196,7 @@ module _ (s : List ℕ) (job : Job) (before : chunk.Progress) (at left : ℕ) (h
       after-left : Left s job before at left → Left s job after q (left - 1)
       after-left l =
           record {
-            begins = q-is .1;
+            begins = omega arith;
             fits = rw behind (each-turn chunkSize chunkFits left (drop at s) h (l .fits) .1);
             ok = rw behind (and-r (chunkOk (job .fonts) here) _ (all-ok l));
             spans = rw behind (and-r (spansOk here) _ (all-spans l));

@@ -1,5 +1,5 @@
 -- Chunks that are sure to be laid out, in a buffer that has room for any answer to their job: their rows go straight into it. Assumes nothing.
-use Prim.Native.Nat.{ℕ, zero, suc, _+_, _-_, _*_, _≤_, _<_}
+use Prim.Native.Nat.{ℕ, zero, suc, _+_, _-_, _*_, _≤_, _<_, min}
 use mathlib.Core.Path.{_≡_, refl, sym, ap, _∙_}
 use mathlib.Core.Bool.{Bool, true, false, _&&_}
 use mathlib.Core.List.{List, [], _∷_, foldl}
@@ -15,6 +15,7 @@ use Rattle.labels.specs.declared.Job.{Job}
 use Rattle.labels.specs.Job as definitions
 use Rattle.labels.specs.Decode.{chunkSize, chunkFits, chunkOf}
 use Rattle.labels.specs.Layout.{Progress, beginning, rowsOf, layoutChunk, layoutJob, layoutRows}
+use Rattle.wire.proofs.Places.{after-drops}
 use Rattle.job_rows.specs.Rows.{jobAt}
 use Rattle.job_rows.proofs.Walks.{rows-turn, rows-done}
 use Rattle.chunk.specs.Sure.{sure}
@@ -48,12 +49,11 @@ module _ (s : List ℕ) {first many at left : ℕ} (y : Asking s first many at l
     pub asked-no : sure (chunkOf (drop at s)) ≡ false → false ≡ all sure (chunksLeft s first many)
     asked-no e = sym (rw e at one-left) ∙ y .same
 
-    pub asked-on : sure (chunkOf (drop at s)) ≡ true → (size q : ℕ) → size ≡ chunkSize (drop at s) → (drop q s ≡ drop size (drop at s)) × (q ≤ length s)
-        → Asking s first many q (left - 1)
+    pub asked-on : sure (chunkOf (drop at s)) ≡ true → (size q : ℕ) → size ≡ chunkSize (drop at s) → q ≡ min (at + size) (length s) → Asking s first many q (left - 1)
     asked-on e size q size-is q-is =
-        let behind : drop q s ≡ drop (chunkSize (drop at s)) (drop at s) = q-is .0 ∙ ap (λ (n : ℕ). drop n (drop at s)) size-is in
+        let behind : drop q s ≡ drop (chunkSize (drop at s)) (drop at s) = after-drops at size s q-is ∙ ap (λ (n : ℕ). drop n (drop at s)) size-is in
         record {
-          begins = q-is .1;
+          begins = omega arith;
           fits = rw behind (each-turn chunkSize chunkFits left (drop at s) h (y .fits) .1);
           same = rw behind (sym (rw e at one-left)) ∙ y .same;
         }

@@ -1,5 +1,5 @@
 -- A span's own glyphs and their merge; one turn and the end of the loop over a chunk's spans. Assumes nothing.
-use Prim.Native.Nat.{ℕ, _+_, _≤_, _<_}
+use Prim.Native.Nat.{ℕ, _+_, _≤_, _<_, min}
 use mathlib.Core.Path.{_≡_, refl, sym, _∙_}
 use mathlib.Core.List.{List, [], _∷_, foldl}
 use native.Mathlib.Nat.{not-suc-le-zero}
@@ -16,18 +16,19 @@ use Rattle.labels.specs.Merge.{Merging, spanBegun, mergeGlyph, mergeDone, merge
 use Rattle.laws.proofs.All.{first, rest}
 use Rattle.labels.specs.Lists.{All}
 use Rattle.laws.proofs.Records.{length-rows}
+use Rattle.wire.proofs.Places.{cut-drops}
 use Rattle.job_rows.specs.Rows.{partsIn}
 use Rattle.job_rows.specs.Rows as lookup
 use Rattle.merge.specs.Merged.{glyphsIn, placesIn, spanPlaces, FewGlyphs}
 use Rattle.merge.proofs.Moved.{glyphs-count}
 
--- a span stands at p, and `row` is what follows there; its glyph count stands k bytes on, and is n
-pub own-glyphs : (s row : List ℕ) (at p k n : ℕ) → row ≡ drop at s → drop p s ≡ drop at s → k ≡ glyphsAt row → n ≡ glyphCount row
+-- a span stands at `at`, of which p is the place or the end before it, and `row` is what follows there; its glyph count stands k bytes on, and is n
+pub own-glyphs : (s row : List ℕ) (at p k n : ℕ) → row ≡ drop at s → p ≡ min at (length s) → k ≡ glyphsAt row → n ≡ glyphCount row
     → records (λ b. glyphBytes) glyphOf n (drop (p + k + 2) s) ≡ partsOf (drop at s) .glyphs
 unfolding partsOf
 own-glyphs s row at p k n row-is p-is k-is n-is =
     let e : p + k + 2 ≡ p + (k + 2) = omega arith in
-    rw (e, ← drop-drop (k + 2) p s, p-is, n-is, k-is, row-is)
+    rw (e, ← drop-drop (k + 2) p s, cut-drops at s p-is, n-is, k-is, row-is)
 
 -- a span's parts, and its n glyphs, which stand from `first` on; its merge into a list of `count` glyphs
 module _ (s : List ℕ) (parts : SpanParts) (first n : ℕ) (own : records (λ b. glyphBytes) glyphOf n (drop first s) ≡ parts .glyphs) where

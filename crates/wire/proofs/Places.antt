@@ -1,16 +1,23 @@
 -- What stands past a place of a list. Assumes nothing.
-use Prim.Native.Nat.{ℕ, _+_, _-_, _≤_}
-use mathlib.Core.Path.{_≡_, sym, _∙_}
-use mathlib.Core.List.{List}
+use Prim.Native.Nat.{ℕ, zero, suc, _+_, _-_, min}
+use mathlib.Core.Path.{_≡_, refl, sym, _∙_}
+use mathlib.Core.List.{List, [], _∷_}
+use native.Mathlib.Nat.{zero-min, min-zero, suc-min-suc}
 use native.Mathlib.Omega.{arith}
-use lib.ListN.{length, take, drop, length-drop, drop-of-length-le}
-use lib.Seq.{take-all, drop-drop, drop-length}
+use lib.ListN.{length, take, drop, length-drop}
+use lib.Seq.{take-all, drop-drop}
 
 module _ {A : Type 0} where
   -- all that stands from `at` on
   pub take-rest : (at : ℕ) (l : List A) → take (length l - at) (drop at l) ≡ drop at l
   take-rest at l = take-all (length l - at) (drop at l) (simp length-drop (omega arith))
 
-  -- nothing stands past the end
-  pub drop-past : (at size : ℕ) (l : List A) → length l ≤ at + size → drop (length l) l ≡ drop size (drop at l)
-  drop-past at size l h = drop-length l ∙ sym (drop-drop size at l ∙ drop-of-length-le l {i = at + size} h)
+  -- nothing stands past the end: what follows a place is what follows it cut off at the end
+  pub cut-drops : (at : ℕ) (l : List A) {r : ℕ} → r ≡ min at (length l) → drop r l ≡ drop at l
+  cut-drops zero l e = rw (e, zero-min)
+  cut-drops (suc at) [] e = rw (e, min-zero)
+  cut-drops (suc at) (x ∷ l) e = rw (e, suc-min-suc) (cut-drops at l refl)
+
+  -- the same of the place `size` further on
+  pub after-drops : (at size : ℕ) (l : List A) {r : ℕ} → r ≡ min (at + size) (length l) → drop r l ≡ drop size (drop at l)
+  after-drops at size l e = cut-drops (at + size) l e ∙ sym (drop-drop size at l)

@@ -1,11 +1,11 @@
 // Parts of a slice that are cut off at its end, so that every place can be asked for.
 ghost use mathlib.Core.Path.{_≡_};
-ghost use Prim.Native.Nat.{_≤_};
+ghost use Prim.Native.Nat.{_+_, min};
 ghost use lib.ListN.{length, take, drop};
 
 // The place `at`, or the end where `at` is past it: nothing stands at either.
 pub fn cut(s: &[u8], at: usize) -> usize
-    ensures { λ r. ⌜ (r ≤ length (now (s .entry))) × (drop r (now (s .entry)) ≡ drop at (now (s .entry))) ⌝ }
+    ensures { λ r. ⌜ r ≡ min at (length (now (s .entry))) ⌝ }
 {
     if at < s.len() {
         return at;
@@ -34,7 +34,7 @@ pub fn part(s: &[u8], at: usize, n: usize) -> &[u8]
 
 // The place `size` bytes after `at`, or the end.
 pub fn after(s: &[u8], at: usize, size: usize) -> usize
-    ensures { λ r. ⌜ (drop r (now (s .entry)) ≡ drop size (drop at (now (s .entry)))) × (r ≤ length (now (s .entry))) ⌝ }
+    ensures { λ r. ⌜ r ≡ min (at + size) (length (now (s .entry))) ⌝ }
 {
     if s.len() < at {
         return s.len();

@@ -3,7 +3,7 @@ use mathlib.Core.Path.{sym, ap, _∙_}
 use native.Mathlib.Omega.{arith}
 use lib.ListN.{length, take}
 use lib.Seq.{take-all, length-take-le}
-use Rattle.wire.proofs.Places.{take-rest, drop-past}
+use Rattle.wire.proofs.Places.{take-rest, cut-drops}
 use borrow.Author.Needs.{needs}
 use Rattle.answer.proofs.glyphs.glyph_places.Statement.{statement}
 use Rattle.answer.proofs.glyphs.glyph_places.Tie as tie
@@ -23,7 +23,8 @@ part-result-end c = search needs
 returns : tie.Need-returns
 returns c =
     let a = c .before .before .args in
-    sym (take-all (a .count) _ (omega arith)) ∙ ap (take (a .count)) (take-rest (length (a .rows .now)) (a .rows .now) ∙ drop-past 0 (a .from) (a .rows .now) (omega arith))
+    let rows = a .rows .now in
+    sym (take-all (a .count) _ (omega arith)) ∙ ap (take (a .count)) (take-rest (length rows) rows ∙ cut-drops (a .from) rows {r = length rows} (omega arith))
 
 mul-rest : tie.Need-mul-rest
 mul-rest c = search needs

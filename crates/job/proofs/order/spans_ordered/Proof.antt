@@ -67,7 +67,7 @@ loop-again c =
     let end = c .before .before .before .before .u16-at2 in
     let span = c .before .before .before .before .before .before .from in
     ordered-on (a .length) (l .previous) (start .result) (end .result) (l .left) (l .p) (a .spans .now) (span .result .now) (span .ensures) (start .ensures) (end .ensures) (omega arith)
-    (not-false (inOrder (a .length) (l .previous) (start .result) (end .result)) (c .before .before .before .if1 .left)) (c .before .span-size .result) (c .after .result) (c .before .span-size .ensures .0) (c .after .ensures .0)
+    (not-false (inOrder (a .length) (l .previous) (start .result) (end .result)) (c .before .before .before .if1 .left)) (c .before .span-size .result) (c .after .result) (c .before .span-size .ensures .0) (c .after .ensures)
     ∙ l .inv
 
 loop-less-2 : tie.Need-loop-less-2 Inv-loop μ-loop

@@ -60,7 +60,7 @@ loop-again c =
     let t = c .before .before .starts-at in
     let t-is = t .ensures ∙ ap (startsAt (a .text .now)) (c .before .before .before .glyph-index-at .ensures) in
     each-on (λ b. glyphBytes) (a .glyphs .now) (drop (l .p) (a .glyphs .now)) (l .p) (l .left) refl (omega arith) ok (t .result) t-is (c .before .if1 .left)
-    glyphBytes (c .after .result) refl (c .after .ensures .0)
+    glyphBytes (c .after .result) refl (c .after .ensures)
     ∙ l .inv
 
 returns-2 : tie.Need-returns-2 Inv-loop μ-loop

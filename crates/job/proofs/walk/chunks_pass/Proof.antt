@@ -55,7 +55,7 @@ loop-again c =
     let t = c .before .before .before .before .chunk-passes in
     let k = c .before .chunk-size in
     each-on chunkSize (a .chunks .now) (row .result .now) (l .p) (l .left) (row .ensures) (omega arith) (chunkPasses (a .check) (a .fonts)) (t .result) (t .ensures) (c .before .before .before .if1 .left)
-    (k .result) (c .after .result) (k .ensures .0) (c .after .ensures .0)
+    (k .result) (c .after .result) (k .ensures .0) (c .after .ensures)
     ∙ l .inv
 
 loop-less-2 : tie.Need-loop-less-2 Inv-loop μ-loop

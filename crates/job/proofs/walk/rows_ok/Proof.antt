@@ -48,7 +48,7 @@ loop-again c =
     let t = c .before .before .row-ok in
     let k = c .before .before .before .before .before .row-size in
     each-on (λ b. rowSize (a .kind)) (a .s .now) (drop (l .p) (a .s .now)) (l .p) (l .left) refl (omega arith) (rowOk (a .kind) (a .fonts)) (t .result) (t .ensures) (c .before .if1 .left)
-    (k .result) (c .after .result) (k .ensures) (c .after .ensures .0)
+    (k .result) (c .after .result) (k .ensures) (c .after .ensures)
     ∙ l .inv
 
 returns-2 : tie.Need-returns-2 Inv-loop μ-loop

@@ -55,7 +55,7 @@ loop-again c =
     let t = c .before .before .before .before .span-passes in
     let k = c .before .span-size in
     each-on spanSize (a .spans .now) (row .result .now) (l .p) (l .left) (row .ensures) (omega arith) (spanPasses (a .check) (a .fonts) (a .text .now)) (t .result) (t .ensures) (c .before .before .before .if1 .left)
-    (k .result) (c .after .result) (k .ensures .0) (c .after .ensures .0)
+    (k .result) (c .after .result) (k .ensures .0) (c .after .ensures)
     ∙ l .inv
 
 loop-less-2 : tie.Need-loop-less-2 Inv-loop μ-loop

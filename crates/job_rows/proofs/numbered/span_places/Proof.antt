@@ -57,9 +57,9 @@ loop-again c =
     let k = c .before .span-size in (
       simp length-set (l .inv .0),
       simp length-set (omega arith),
-      c .after .ensures .1,
+      omega arith,
       before-turn _ (l .places) (l .i) (l .p) (omega arith) (l .inv .3) (omega arith),
-      found-turn (a .s .now) (l .places) _ (l .i) (l .p) (c .after .result) (row .result .now) (k .result) (omega arith) (sym (l .inv .0)) (row .ensures) (k .ensures .0) (c .after .ensures .0)
+      found-turn (a .s .now) (l .places) _ (l .i) (l .p) (c .after .result) (row .result .now) (k .result) (omega arith) (sym (l .inv .0)) (row .ensures) (k .ensures .0) (c .after .ensures)
           ∙ l .inv .4,
     )
 

@@ -47,7 +47,7 @@ loop-again c =
     let k = c .before .span-size in (
       omega arith,
       omega arith,
-      sizes-on spanSize s (row .result .now) (l .p) (l .left) (row .ensures) (omega arith) (k .result) (c .after .result) (k .ensures .0) (c .after .ensures .0) (l .size)
+      sizes-on spanSize s (row .result .now) (l .p) (l .left) (row .ensures) (omega arith) (k .result) (c .after .result) (k .ensures .0) (c .after .ensures) (l .size)
           ∙ l .inv .2,
     )
 

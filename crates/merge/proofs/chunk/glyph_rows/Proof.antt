@@ -33,7 +33,7 @@ returns c =
     let p = c .before .before .cut in
     let row = c .before .before .before .from in
     let a = c .before .before .before .before .before .args in
-    (omega arith, own-glyphs (a .s .now) (row .result .now) (a .at) (p .result) (k .result) (n .result) (row .ensures) (p .ensures .1) (k .ensures .0) (n .ensures .0))
+    (omega arith, own-glyphs (a .s .now) (row .result .now) (a .at) (p .result) (k .result) (n .result) (row .ensures) (p .ensures) (k .ensures .0) (n .ensures .0))
 
 pub glyph-rows-spec : {M : Type 1} → statement M
 glyph-rows-spec =

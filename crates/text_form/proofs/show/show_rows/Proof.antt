@@ -41,7 +41,7 @@ loop-again c =
     let row = c .before .before .from in
     let k = c .before .show-row in (
       search needs,
-      behind-on (rowSizeOf kind) _ (l .i) s (row .result .now) (l .at) (k .result) (c .after .result) (row .ensures) (k .ensures) (c .after .ensures .0) (c .before .before .before .loop-test .taken)
+      behind-on (rowSizeOf kind) _ (l .i) s (row .result .now) (l .at) (k .result) (c .after .result) (row .ensures) (k .ensures) (c .after .ensures) (c .before .before .before .loop-test .taken)
           ∙ l .inv .1,
     )
 
