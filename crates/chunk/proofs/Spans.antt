@@ -1,17 +1,18 @@
--- The spans of a checked chunk: they are few, they begin within the record, and the places counted from there are theirs. Assumes nothing.
+-- The spans of a checked chunk: they are few, and the places counted from the first are theirs. Assumes nothing.
 use Prim.Native.Nat.{ℕ, _+_, _≤_}
 use mathlib.Core.Path.{_≡_, sym, ap, _∙_}
 use mathlib.Core.List.{List, _++_}
 use native.Mathlib.Nat.{add-assoc}
 use native.Mathlib.Omega.{arith}
-use lib.ListN.{length, take, drop, length-append, length-take, length-drop}
+use lib.ListN.{length, take, drop, length-append, length-take}
 use lib.Seq.{drop-drop, take-at}
 use lib.Dec.{leb→le}
 use Rattle.laws.proofs.All.{all-every, first, rest}
 use Rattle.labels.specs.Job.{limits}
 use Rattle.labels.specs.Bytes.{rows}
 use Rattle.labels.specs.Decode.{spanSize, partsOf, spansAt, spanCount, spanBytes, chunkFits, chunkOf}
-use Rattle.job_rows.specs.Rows.{partsIn}
+use Rattle.job_rows.specs.Rows.{partsIn, spanPlaces}
+use Rattle.job_rows.proofs.ByNumber.{parts-places}
 use Rattle.chunk.specs.declared.progress.NextChunk.{NextChunk}
 use Rattle.chunk.specs.Checked.{ShapedChunk, SpansFound, CheckedChunk, SpannedChunk}
 
@@ -38,20 +39,14 @@ module _ {s : List ℕ} {at : ℕ} (k : ShapedChunk s at) {chunk : List ℕ} (he
   unfolding chunkFits
   few-spans e = rw (e, here) (leb→le _ _ (first (rest (all-every _ (k .fits)))))
 
-  pub first-within : {m : ℕ} → m ≡ spansAt chunk → at + m + 1 ≤ length s
-  unfolding chunkFits
-  first-within e =
-      let ends : spansAt (drop at s) + 1 ≤ length (drop at s) = leb→le _ _ (first (rest (rest (all-every _ (k .fits))))) in
-      rw (e, here) (omega (arith, rw length-drop at ends, k .begins))
-
   -- as many places as there are spans, counted from the first
   pub places-of : (places : List ℕ) {m n held : ℕ} → m ≡ spansAt chunk → n ≡ spanCount chunk → n ≡ held
-      → partsIn s places ≡ rows spanSize partsOf held (drop (at + m + 1) s) → partsIn s places ≡ chunkOf (drop at s) .parts
+      → places ≡ spanPlaces s (at + m + 1) held → partsIn s places ≡ chunkOf (drop at s) .parts
   unfolding chunkOf spanBytes
   places-of places m-is n-is same e =
       let began : drop (at + spansAt (drop at s) + 1) s ≡ spanBytes (drop at s) =
       ap (λ (i : ℕ). drop i s) (add-assoc at (spansAt (drop at s)) 1) ∙ sym (drop-drop (spansAt (drop at s) + 1) at s) in
-      e ∙ rw (sym same, m-is, n-is, here) (ap (rows spanSize partsOf (spanCount (drop at s))) began)
+      rw (e, parts-places, sym same, m-is, n-is, here) (ap (rows spanSize partsOf (spanCount (drop at s))) began)
 
 -- what check 3 has shown of a chunk, and the spans that are found
 pub shape-of : {s : List ℕ} {next : NextChunk} → CheckedChunk s next → ShapedChunk s (next .at)

@@ -1,24 +1,19 @@
--- Rows by their numbers, and the places of the spans as they are found. Assumes nothing.
+-- Rows by their numbers, and the places of the spans. Assumes nothing.
 use Prim.Native.Nat.{ℕ, zero, suc, _+_, _-_, _*_, _≤_, _<_, min}
 use mathlib.Core.Path.{_≡_, refl, sym, ap, _∙_}
-use mathlib.Core.Bool.{true}
-use mathlib.Core.List.{List, [], _∷_, _++_, map, map-append, append-nil}
-use native.Mathlib.Nat.{le-of-suc-le-suc, not-suc-le-zero}
+use mathlib.Core.List.{List, [], _∷_, _++_, map, append-nil}
+use native.Mathlib.Nat.{le-of-suc-le-suc, not-suc-le-zero, min-le-right}
 use native.Mathlib.Numerals.{add-one}
 use native.Mathlib.Omega.{arith}
-use lib.Dec.{leb}
-use lib.ListN.{length, getD, set, take, drop, List·getD-eq-default}
+use lib.ListN.{length, getD, set, take, drop, length-set, List·getD-eq-default}
 use lib.Seq.{drop-drop, take-suc-set, take-all, append-snoc}
-use borrow.Author.Tests.{le-leb}
-use Rattle.labels.specs.Lists.{all}
 use Rattle.labels.specs.Bytes.{rows, sizes}
-use Rattle.labels.specs.Job.{SpanParts, blankFont, fontAt}
+use Rattle.labels.specs.Job.{blankFont, fontAt}
 use Rattle.labels.specs.Decode.{fontBytes, fontOf, spanSize, partsOf}
-use Rattle.laws.proofs.All.{and-left, and-right}
+use Rattle.labels.specs.Lists.{All}
 use Rattle.laws.proofs.Records.{length-rows, rows-at}
 use Rattle.wire.proofs.Places.{after-drops}
-use Rattle.job_rows.proofs.Walks.{rows-turn, rows-done}
-use Rattle.job_rows.specs.Rows.{fontsIn, partsIn}
+use Rattle.job_rows.specs.Rows.{fontsIn, partsIn, spanPlaces}
 
 -- ---- rows of one size
 
@@ -59,48 +54,40 @@ module _ {A B : Type 0} (f : A → B) where
   map-past (x ∷ xs) zero b h = absurd (not-suc-le-zero h)
   map-past (x ∷ xs) (suc i) b h = map-past xs i b (le-of-suc-le-suc h)
 
--- ---- the places of the spans: i of them are found, and the next stands at p
+-- ---- the places of the spans
 module _ (s : List ℕ) where
-  abbrev pub found : List ℕ → ℕ → ℕ → ℕ → List SpanParts
-  found l n i p = partsIn s (take i l) ++ rows spanSize partsOf (n - i) (drop p s)
+  pub length-places : (at n : ℕ) → length (spanPlaces s at n) ≡ n
+  unfolding spanPlaces
+  length-places at zero = refl
+  length-places at (suc n) = ap suc (length-places _ n)
 
-  pub found-start : (l : List ℕ) (n p : ℕ) → found l n 0 p ≡ rows spanSize partsOf n (drop p s)
-  unfolding partsIn
-  found-start l n p = let e : n - 0 ≡ n = omega arith in rw e
+  -- the spans there are those that are read one after the other
+  pub parts-places : (at n : ℕ) → partsIn s (spanPlaces s at n) ≡ rows spanSize partsOf n (drop at s)
+  unfolding spanPlaces partsIn rows
+  parts-places at zero = refl
+  parts-places at (suc n) =
+      ap (λ ps. partsOf (drop at s) ∷ ps) (parts-places _ n ∙ ap (rows spanSize partsOf n) (after-drops at _ s refl))
 
-  pub found-turn : (l : List ℕ) (n i p q : ℕ) (row : List ℕ) (k : ℕ) → i < n → n ≡ length l
-      → row ≡ drop p s → k ≡ spanSize row → q ≡ min (p + k) (length s)
-      → found (set l i p) n (i + 1) q ≡ found l n i p
-  unfolding partsIn
-  found-turn l n i p q row k h e er ek eq =
-      let h₁ : i < length l = omega arith in
-      let h₂ : 0 < n - i = omega arith in
-      let e₁ : n - (i + 1) ≡ n - i - 1 = omega arith in
-      rw (e₁, after-drops p k s eq, ek, er, rows-turn spanSize partsOf (n - i) (drop p s) h₂, add-one i, take-suc-set l i p h₁, map-append)
-      (append-snoc (partsIn s (take i l)) (partsOf (drop p s)) (rows spanSize partsOf (n - i - 1) (drop (spanSize (drop p s)) (drop p s))))
+  -- and none is past the end of the record
+  pub places-within : (at n : ℕ) → at ≤ length s → All (λ p. p ≤ length s) (spanPlaces s at n)
+  unfolding spanPlaces
+  places-within at zero h = All.none
+  places-within at (suc n) h = All.more h (places-within _ n (min-le-right _ _))
 
-  pub found-end : (l : List ℕ) (n i p : ℕ) → n ≤ i → n ≡ length l → found l n i p ≡ partsIn s l
-  found-end l n i p h e =
-      let h₁ : n - i ≤ 0 = omega arith in
-      let h₂ : length l ≤ i = omega arith in
-      rw (rows-done spanSize partsOf (n - i) (drop p s) h₁, take-all i l h₂) (append-nil _)
+  -- i of them are put, and the next stands at p
+  abbrev pub placed : List ℕ → ℕ → ℕ → List ℕ
+  placed l i p = take i l ++ spanPlaces s p (length l - i)
 
--- ---- all of them stand before a limit
-module _ (m : ℕ) where
-  abbrev pub before : List ℕ → Type 0
-  before l = all (λ (p : ℕ). leb p m) l ≡ true
+  pub placed-start : (l : List ℕ) (p : ℕ) → placed l 0 p ≡ spanPlaces s p (length l)
+  placed-start l p = let e : length l - 0 ≡ length l = omega arith in rw e
 
-  pub before-none : (l : List ℕ) → before (take 0 l)
-  unfolding all
-  before-none l = refl
+  pub placed-turn : (l : List ℕ) (i p : ℕ) {q k : ℕ} {row : List ℕ} → i < length l → row ≡ drop p s → k ≡ spanSize row → q ≡ min (p + k) (length s)
+      → placed (set l i p) (i + 1) q ≡ placed l i p
+  unfolding spanPlaces
+  placed-turn l i p h row-is k-is q-is =
+      let left : length l - i ≡ suc (length l - (i + 1)) = omega arith in
+      rw (length-set, q-is, k-is, row-is, left, add-one i, take-suc-set l i p h) (append-snoc (take i l) p _)
 
-  before-snoc : (l : List ℕ) (p : ℕ) → before l → p ≤ m → before (l ++ (p ∷ []))
-  unfolding all
-  before-snoc [] p e h = rw (le-leb p m h)
-  before-snoc (x ∷ l) p e h = rw (and-left (leb x m) _ e) (before-snoc l p (and-right (leb x m) _ e) h)
-
-  pub before-end : (l : List ℕ) (i : ℕ) → length l ≤ i → before (take i l) → before l
-  before-end l i h e = rw (take-all i l h) at e
-
-  pub before-turn : (l : List ℕ) (i p : ℕ) → i < length l → before (take i l) → p ≤ m → before (take (i + 1) (set l i p))
-  before-turn l i p h e g = rw (add-one i, take-suc-set l i p h) (before-snoc (take i l) p e g)
+  pub placed-end : (l : List ℕ) (i p : ℕ) → length l ≤ i → placed l i p ≡ l
+  unfolding spanPlaces
+  placed-end l i p h = let none : length l - i ≡ 0 = omega arith in rw (none, take-all i l h) (append-nil l)

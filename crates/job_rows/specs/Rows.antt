@@ -1,7 +1,7 @@
 -- The rows of a job by their numbers, in its record s. Definitions only.
-use Prim.Native.Nat.{ℕ, _+_}
-use mathlib.Core.List.{List, map}
-use lib.ListN.{take, drop}
+use Prim.Native.Nat.{ℕ, zero, suc, _+_, min}
+use mathlib.Core.List.{List, [], _∷_, map}
+use lib.ListN.{length, take, drop}
 use Rattle.labels.specs.Bytes.{be, rows}
 use Rattle.labels.specs.declared.Font.{Font}
 use Rattle.labels.specs.declared.Glyph.{Glyph}
@@ -9,7 +9,7 @@ use Rattle.labels.specs.declared.Job.{Job}
 use Rattle.labels.specs.declared.Span.{Span}
 use Rattle.labels.specs.Job as definitions
 use Rattle.labels.specs.Job.{SpanParts}
-use Rattle.labels.specs.Decode.{fontBytes, fontOf, glyphOf, spanOf, partsOf, listOf, chunkSize, chunkOf}
+use Rattle.labels.specs.Decode.{fontBytes, fontOf, glyphOf, spanSize, spanOf, partsOf, listOf, chunkSize, chunkOf}
 
 -- the n font rows, which begin behind length, version, writing mode and font count
 unfoldable pub fontsIn : List ℕ → ℕ → List Font
@@ -22,6 +22,11 @@ spansIn s places = map (λ (at : ℕ). spanOf (drop at s)) places
 -- with their shifts and glyphs
 unfoldable pub partsIn : List ℕ → List ℕ → List SpanParts
 partsIn s places = map (λ (at : ℕ). partsOf (drop at s)) places
+
+-- where n spans stand, one after the other, the first of them at `at`; no other place is past the end of the record
+unfoldable pub spanPlaces : List ℕ → ℕ → ℕ → List ℕ
+spanPlaces s at zero = []
+spanPlaces s at (suc n) = at ∷ spanPlaces s (min (at + spanSize (drop at s)) (length s)) n
 
 -- the glyphs whose rows begin at the places
 unfoldable pub glyphsAt : List ℕ → List ℕ → List Glyph

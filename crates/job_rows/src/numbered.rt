@@ -15,16 +15,11 @@ use wire::place::from;
 use wire::read::f32_at;
 use wire::read::u16_at;
 ghost use mathlib.Core.Path.{_≡_};
-ghost use Prim.Native.Nat.{ℕ, _≤_};
-ghost use mathlib.Core.Bool.{true};
-ghost use lib.Dec.{leb};
-ghost use Rattle.labels.specs.Lists.{all};
-ghost use lib.ListN.{length, getD, drop};
+ghost use lib.ListN.{length, getD};
 ghost use Rattle.labels.specs.Single.{+0};
 ghost use Rattle.labels.specs.Job.{blankFont, fontAt, blankSpan, spanAt};
-ghost use Rattle.labels.specs.Bytes.{rows};
-ghost use Rattle.labels.specs.Decode.{listOf, spanSize, partsOf};
-ghost use Rattle.job_rows.specs.Rows.{fontsIn, spansIn, partsIn};
+ghost use Rattle.labels.specs.Decode.{listOf};
+ghost use Rattle.job_rows.specs.Rows.{fontsIn, spansIn, spanPlaces};
 
 // Where the first font row stands: behind length, version, writing mode and font count.
 pub const FIRST_FONT: usize = 7;
@@ -119,9 +114,7 @@ pub fn float_in(list: &[u8], i: usize) -> f32
 
 // The places of the spans that stand one after the other from `at` on, as many as there is room for.
 pub fn span_places(s: &[u8], at: usize, places: &mut [usize])
-    requires { ⌜ at ≤ length (now s) ⌝ }
-    ensures { λ _. ⌜ (partsIn (now (s .entry)) (now (places .exit)) ≡ rows spanSize partsOf (length (now (places .entry))) (drop at (now (s .entry))))
-        × (length (now (places .exit)) ≡ length (now (places .entry))) × (all (λ (p : ℕ). leb p (length (now (s .entry)))) (now (places .exit)) ≡ true) ⌝ }
+    ensures { λ _. ⌜ now (places .exit) ≡ spanPlaces (now (s .entry)) at (length (now (places .entry))) ⌝ }
 {
     let mut p = at;
     let mut i: usize = 0;

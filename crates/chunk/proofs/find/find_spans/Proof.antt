@@ -1,9 +1,11 @@
 -- `chunk::find::find_spans` meets its contract. Assumes nothing.
 use Prim.Native.Nat.{_≤_}
+use mathlib.Core.Path.{ap, _∙_}
 use native.Mathlib.Omega.{arith}
 use lib.ListN.{length}
 use Rattle.labels.specs.Job.{limits}
-use Rattle.chunk.proofs.Spans.{lent-length, own-back, few-spans, first-within, places-of}
+use Rattle.job_rows.proofs.ByNumber.{length-places}
+use Rattle.chunk.proofs.Spans.{lent-length, own-back, few-spans, places-of}
 use borrow.Author.Needs.{needs}
 use Rattle.chunk.proofs.find.find_spans.Statement.{statement}
 use Rattle.chunk.proofs.find.find_spans.Tie as tie
@@ -40,9 +42,7 @@ slice-aggregate-span-places : tie.Need-slice-aggregate-span-places
 slice-aggregate-span-places c = lent-length _ (held (c .before))
 
 span-places-requires : tie.Need-span-places-requires
-span-places-requires c κs =
-    let count = c .before in
-    first-within (start count .pre .0) (count .before .before .from .ensures) (count .spans-at .ensures .0)
+span-places-requires c κs = search needs
 
 same-length : tie.Need-same-length
 same-length c = search needs
@@ -53,10 +53,10 @@ returns c =
     let count = put .before .before in
     let places = start count .args .places .now in
     let all = held count in
-    let same = put .span-places .ensures .1 in
+    let same = ap length (put .span-places .ensures) ∙ length-places _ _ _ in
     record {
       few = few count;
-      parts = rw (own-back places _ all same) (places-of (start count .pre .0) (count .before .before .from .ensures) _ (count .spans-at .ensures .0) (count .before .span-count .ensures .0) (lent-length places all) (put .span-places .ensures .0));
+      parts = rw (own-back places _ all same) (places-of (start count .pre .0) (count .before .before .from .ensures) _ (count .spans-at .ensures .0) (count .before .span-count .ensures .0) (lent-length places all) (put .span-places .ensures));
     }
 
 pub find-spans-spec : {M : Type 1} → statement M

@@ -5,28 +5,19 @@ use borrow.Author.Needs.{needs}
 use native.Mathlib.Omega.{arith}
 use Prim.Native.Nat.{_-_, _≤_}
 use mathlib.Core.Path.{_≡_, refl, sym, _∙_}
-use lib.ListN.{length, take, drop, length-set}
-use Rattle.labels.specs.Bytes.{rows}
-use Rattle.labels.specs.Decode.{spanSize, partsOf}
-use Rattle.job_rows.proofs.ByNumber.{found, found-start, found-turn, found-end, before, before-none, before-turn, before-end}
+use lib.ListN.{length, length-set}
+use Rattle.job_rows.specs.Rows.{spanPlaces}
+use Rattle.job_rows.proofs.ByNumber.{placed, placed-start, placed-turn, placed-end}
 
 abbrev Inv-loop : tie.InvT-loop
 Inv-loop s at places₀ p₀ i₀ places p i =
-    (length places ≡ length places₀) × (i ≤ length places) × (p ≤ length s) × (before (length s) (take i places))
-    × (found s places (length places₀) i p ≡ rows spanSize partsOf (length places₀) (drop at s))
+    (length places ≡ length places₀) × (i ≤ length places) × (placed s places i p ≡ spanPlaces s at (length places₀))
 
 abbrev μ-loop : tie.MeasureT-loop
 μ-loop s at places₀ p₀ i₀ places p i = length places₀ - i
 
 loop-holds : tie.Need-loop-holds Inv-loop μ-loop
-loop-holds c =
-    let a = c .before .before .args in (
-      refl,
-      omega arith,
-      omega arith,
-      before-none _ (a .places .now),
-      found-start (a .s .now) (a .places .now) _ (a .at),
-    )
+loop-holds c = let a = c .before .before .args in (refl, omega arith, placed-start (a .s .now) (a .places .now) (a .at))
 
 mul-places : tie.Need-mul-places Inv-loop μ-loop
 mul-places c = search needs
@@ -52,15 +43,11 @@ loop-less c = search needs
 loop-again : tie.Need-loop-again Inv-loop μ-loop
 loop-again c =
     let a = c .before .before .before .before .before .before .before .args in
-    let l = c .before .before .before .before .loop in
-    let row = c .before .before .from in
-    let k = c .before .span-size in (
+    let l = c .before .before .before .before .loop in (
       simp length-set (l .inv .0),
       simp length-set (omega arith),
-      omega arith,
-      before-turn _ (l .places) (l .i) (l .p) (omega arith) (l .inv .3) (omega arith),
-      found-turn (a .s .now) (l .places) _ (l .i) (l .p) (c .after .result) (row .result .now) (k .result) (omega arith) (sym (l .inv .0)) (row .ensures) (k .ensures .0) (c .after .ensures)
-          ∙ l .inv .4,
+      placed-turn (a .s .now) (l .places) (l .i) (l .p) (omega arith) (c .before .before .from .ensures) (c .before .span-size .ensures .0) (c .after .ensures)
+          ∙ l .inv .2,
     )
 
 same-length : tie.Need-same-length Inv-loop μ-loop
@@ -68,12 +55,8 @@ same-length c = search needs
 
 returns : tie.Need-returns Inv-loop μ-loop
 returns c =
-    let a = c .before .before .before .before .args in
-    let l = c .before .loop in (
-      sym (found-end (a .s .now) (l .places) _ (l .i) (l .p) (omega arith) (sym (l .inv .0))) ∙ l .inv .4,
-      l .inv .0,
-      before-end _ (l .places) (l .i) (omega arith) (l .inv .3),
-    )
+    let l = c .before .loop in
+    sym (placed-end (c .before .before .before .before .args .s .now) (l .places) (l .i) (l .p) (omega arith)) ∙ l .inv .2
 
 pub span-places-spec : {M : Type 1} → statement M
 span-places-spec =
