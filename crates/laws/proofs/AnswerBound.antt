@@ -8,7 +8,7 @@ use lib.ListN.{length, drop, length-take, length-drop}
 use lib.Dec.{T, leb→le, eqb→eq}
 use Rattle.laws.proofs.All.{all-of, all-every, first, rest}
 use Rattle.labels.specs.Lists.{All}
-use Rattle.laws.proofs.IfGiven.{IfGiven, if-given, of-given, given-then}
+use Rattle.laws.proofs.IfGiven.{if-given, of-given, given-then}
 use Rattle.laws.proofs.Records.{length-rows}
 use Rattle.laws.proofs.Outcomes.{reached}
 use Rattle.laws.proofs.Accepted.{accepted}
@@ -17,7 +17,7 @@ use Rattle.laws.proofs.Sums.{total, total-append, total-counted, total-
 use Rattle.laws.proofs.MergedLength.{glyphRowsIn, merged-length}
 use Rattle.laws.proofs.GlyphsShared.{Shared, adjusted-share}
 use Rattle.laws.proofs.RowSize.{Sized, row-length, laidLength, placed-sized, rows-length, rows-bytes}
-use Rattle.labels.specs.Outcome.{Outcome, refused, given}
+use Rattle.labels.specs.Outcome.{Outcome, refused, given, IfGiven}
 use Rattle.labels.specs.Bytes.{sizes}
 use Rattle.labels.specs.declared.Glyph.{Glyph}
 use Rattle.labels.specs.declared.Cluster.{Cluster}

@@ -8,11 +8,10 @@ use lib.Ieee.{Float, binary32, lt}
 use lib.Ieee.Fits.{add-fits, mul-fits, div-fits, neg-fits}
 use Rattle.laws.proofs.All.{all-getD, fold-keeps, cond-keeps}
 use Rattle.laws.proofs.Few.{Few, few-map, few-scan, few-modify, few-modifies}
-use Rattle.laws.proofs.IfGiven.{IfGiven}
 use Rattle.laws.proofs.ReadBack.{Fits}
 use Rattle.laws.proofs.GroupsKeep.{groups-keep}
 use Rattle.laws.proofs.FitCluster.{FitCluster, FitClusters, zero-fits, line-fits, height-fits, scale-fits, marks-fit, collapsed-fits, advance-fits, shift-fits}
-use Rattle.labels.specs.Outcome.{Outcome, refused, given}
+use Rattle.labels.specs.Outcome.{Outcome, refused, given, IfGiven}
 use Rattle.labels.specs.Lists.{any, all, atOr, All}
 use Rattle.labels.specs.Single.{+0, isZero, thousandth}
 use Rattle.labels.specs.declared.Font.{Font}

@@ -12,9 +12,9 @@ use lib.Ieee.{Float, lt}
 use Rattle.laws.proofs.All.{fold-keeps, cond-keeps}
 use Rattle.laws.proofs.Few.{length-modify}
 use Rattle.laws.proofs.AsMany.{length-scan}
-use Rattle.laws.proofs.IfGiven.{IfGiven, of-given}
+use Rattle.laws.proofs.IfGiven.{of-given}
 use Rattle.laws.proofs.Sums.{total, total-map, total-scan, total-modify}
-use Rattle.labels.specs.Outcome.{Outcome, refused, given}
+use Rattle.labels.specs.Outcome.{Outcome, refused, given, IfGiven}
 use Rattle.labels.specs.Lists.{any, all, atOr, modify, scan}
 use Rattle.labels.specs.Single.{+0, isZero, thousandth}
 use Rattle.labels.specs.declared.Font.{Font}

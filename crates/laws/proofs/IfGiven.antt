@@ -1,10 +1,6 @@
 -- What holds of an outcome's value, where there is one. Assumes nothing.
 use mathlib.Core.Path.{_≡_, refl, subst}
-use Rattle.labels.specs.Outcome.{Outcome, refused, given, andThen}
-
-abbrev pub IfGiven : {A : Type 0} → (A → Type 0) → Outcome A → Type 0
-IfGiven P (refused n) = Unit {0}
-IfGiven P (given a) = P a
+use Rattle.labels.specs.Outcome.{Outcome, refused, given, andThen, IfGiven}
 
 module _ {A : Type 0} (P : A → Type 0) where
   pub if-given : (o : Outcome A) → ((a : A) → o ≡ given a → P a) → IfGiven P o

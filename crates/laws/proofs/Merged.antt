@@ -8,8 +8,8 @@ use lib.ListN.{length, length-append, length-take, length-drop, length-set}
 use lib.Dec.{leb, ltb, ltb→lt, lit≤, T}
 use Rattle.laws.proofs.All.{all-append, all-take, all-drop, all-set, cond-keeps}
 use Rattle.labels.specs.Lists.{All}
-use Rattle.laws.proofs.IfGiven.{IfGiven, of-given, given-then}
-use Rattle.labels.specs.Outcome.{Outcome, refused, given}
+use Rattle.laws.proofs.IfGiven.{of-given, given-then}
+use Rattle.labels.specs.Outcome.{Outcome, refused, given, IfGiven}
 use Rattle.labels.specs.declared.Glyph.{Glyph}
 use Rattle.labels.specs.declared.Span.{Span}
 use Rattle.labels.specs.Job.{SpanParts, limits}

@@ -7,9 +7,9 @@ use native.Mathlib.Omega.{arith}
 use lib.ListN.{length, length-append, length-take, length-drop, length-set}
 use lib.Dec.{leb, ltb}
 use Rattle.laws.proofs.All.{cond-keeps}
-use Rattle.laws.proofs.IfGiven.{IfGiven, of-given, given-then}
+use Rattle.laws.proofs.IfGiven.{of-given, given-then}
 use Rattle.laws.proofs.Sums.{total}
-use Rattle.labels.specs.Outcome.{Outcome, refused, given}
+use Rattle.labels.specs.Outcome.{Outcome, refused, given, IfGiven}
 use Rattle.labels.specs.declared.Glyph.{Glyph}
 use Rattle.labels.specs.declared.Span.{Span}
 use Rattle.labels.specs.Job.{SpanParts, limits}

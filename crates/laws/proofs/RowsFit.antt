@@ -13,7 +13,7 @@ use lib.Ieee.Fits.{add-fits, ofInt-fits, and-l}
 use Rattle.laws.proofs.All.{all-append, all-take, all-drop, all-map, all-every, all-weaken, both, cond-keeps, first, rest}
 use Rattle.labels.specs.Lists.{All}
 use Rattle.laws.proofs.Few.{Few, few-map}
-use Rattle.laws.proofs.IfGiven.{IfGiven, if-given, of-given, given-then}
+use Rattle.laws.proofs.IfGiven.{if-given, of-given, given-then}
 use Rattle.laws.proofs.Accepted.{RangedChunk, RangedJob, floats-in-range}
 use Rattle.laws.proofs.Counted.{IsByte, CountedChunk, CountedJob, counted}
 use Rattle.laws.proofs.Merged.{Kept}
@@ -22,7 +22,7 @@ use Rattle.laws.proofs.GlyphsAccepted.{AcceptedGlyph, MergedAccepted, m
 use Rattle.laws.proofs.FitCluster.{FitCluster, FitClusters, zero-fits}
 use Rattle.laws.proofs.ClustersFit.{adjusted-fit, positioned-fit}
 use Rattle.laws.proofs.SpanRowsFit.{FitPoint, spanRows-fit}
-use Rattle.labels.specs.Outcome.{Outcome, refused, given}
+use Rattle.labels.specs.Outcome.{Outcome, refused, given, IfGiven}
 use Rattle.labels.specs.Single.{+0}
 use Rattle.labels.specs.declared.Glyph.{Glyph}
 use Rattle.labels.specs.Job.{Job, Chunk, limits, hasX, hasY, topToBottom}

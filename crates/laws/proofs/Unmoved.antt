@@ -8,8 +8,8 @@ use lib.Dec.{eqb}
 use lib.Ieee.{Float, lt}
 use Rattle.laws.specs.Unmoved.{ShiftedBy, Unmoved}
 use Rattle.laws.proofs.All.{all-map, all-scan, all-modify, fold-keeps, cond-keeps}
-use Rattle.laws.proofs.IfGiven.{IfGiven, of-given}
-use Rattle.labels.specs.Outcome.{Outcome, refused, given}
+use Rattle.laws.proofs.IfGiven.{of-given}
+use Rattle.labels.specs.Outcome.{Outcome, refused, given, IfGiven}
 use Rattle.labels.specs.Lists.{any, all, atOr, modify, All}
 use Rattle.labels.specs.Single.{+0, isZero, thousandth}
 use Rattle.labels.specs.declared.Font.{Font}

@@ -7,8 +7,8 @@ use borrow.Author.Tests.{le-leb, lt-leb}
 use lib.ListN.{length, take, drop, length-append, length-map}
 use lib.Seq.{drop-at, length-take-le}
 use Rattle.laws.proofs.Numbers.{length-bytes}
-use Rattle.laws.proofs.IfGiven.{IfGiven, of-given}
-use Rattle.labels.specs.Outcome.{Outcome, refused, given, andThen}
+use Rattle.laws.proofs.IfGiven.{of-given}
+use Rattle.labels.specs.Outcome.{Outcome, refused, given, andThen, IfGiven}
 use Rattle.labels.specs.Bytes.{bytes}
 use Rattle.labels.specs.declared.Job.{Job}
 use Rattle.labels.specs.Job as definitions

@@ -8,7 +8,7 @@ use lib.ListN.{length, drop, length-map, drop-of-length-le}
 use lib.Seq.{drop-cons}
 use lib.Dec.{eqb}
 use lib.Ieee.{Float, lt}
-use Rattle.labels.specs.Outcome.{Outcome, refused, given}
+use Rattle.labels.specs.Outcome.{Outcome, refused, given, IfGiven}
 use Rattle.labels.specs.Lists.{modify, all, atOr}
 use Rattle.labels.specs.Single.{+0, isZero, thousandth, _/ᶠ_}
 use Rattle.labels.specs.declared.Span.{Span}
@@ -19,7 +19,7 @@ use Rattle.labels.specs.ClusterParts.{withScale}
 use Rattle.labels.specs.Cluster.{rounded}
 use Rattle.labels.specs.Looked.{spanLooked, spansLooked}
 use Rattle.laws.proofs.All.{fold-keeps, cond-keeps}
-use Rattle.laws.proofs.IfGiven.{IfGiven, of-given}
+use Rattle.laws.proofs.IfGiven.{of-given}
 use Rattle.clusters.specs.Clusters.{clustersOf, indexesIn}
 use Rattle.clusters.proofs.Rows.{clusters-indexes}
 

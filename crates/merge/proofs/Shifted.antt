@@ -10,8 +10,7 @@ use lib.ListN.{length, drop, set, length-append, length-take, length-drop, lengt
 use lib.Seq.{take-nil, drop-nil}
 use borrow.Author.Tests.{eqb-true, ne-eqb}
 use Rattle.laws.proofs.All.{cond-keeps}
-use Rattle.laws.proofs.IfGiven.{IfGiven}
-use Rattle.labels.specs.Outcome.{Outcome, given, andThen}
+use Rattle.labels.specs.Outcome.{Outcome, given, andThen, IfGiven}
 use Rattle.labels.specs.Lists.{findIdx}
 use Rattle.labels.specs.Job.{limits}
 use Rattle.labels.specs.declared.Glyph.{Glyph}

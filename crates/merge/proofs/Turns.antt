@@ -4,8 +4,8 @@ use mathlib.Core.Path.{_≡_, refl, sym, _∙_}
 use mathlib.Core.List.{List, [], _∷_, foldl}
 use lib.ListN.{drop}
 use lib.Seq.{drop-drop}
-use Rattle.laws.proofs.IfGiven.{IfGiven, of-given}
-use Rattle.labels.specs.Outcome.{Outcome, refused, given, andThen}
+use Rattle.laws.proofs.IfGiven.{of-given}
+use Rattle.labels.specs.Outcome.{Outcome, refused, given, andThen, IfGiven}
 use Rattle.labels.specs.Bytes.{rows as records}
 use Rattle.labels.specs.declared.Glyph.{Glyph}
 use Rattle.labels.specs.declared.Span.{Span}

@@ -4,11 +4,10 @@ use mathlib.Core.Path.{_≡_}
 use mathlib.Core.Bool.{true}
 use mathlib.Core.List.{List, [], _∷_}
 use lib.ListN.{getD, length, set}
-use Rattle.laws.proofs.IfGiven.{IfGiven}
 use Rattle.labels.specs.Job.{limits}
 use Rattle.labels.specs.declared.Glyph.{Glyph}
 use Rattle.labels.specs.declared.Span.{Span}
-use Rattle.labels.specs.Outcome.{Outcome, refused, given}
+use Rattle.labels.specs.Outcome.{Outcome, refused, given, IfGiven}
 use Rattle.labels.specs.Merge.{Merging, spanContains, replaceFirst, mergeDone}
 use Rattle.merge.specs.Merged.{glyphsIn, mergedOf, placesIn, Held}
 use Rattle.merge.specs.Firsts.{NoLater}
