@@ -15,7 +15,7 @@ use Rattle.labels.specs.Script.Tag.{tag}
 use Rattle.labels.specs.Exact.{ExactCluster, formedExactly, layoutExactly, glyphTotal, sizeTotal, allowed}
 use Rattle.labels.proofs.Compute.{computed}
 use Rattle.labels.proofs.Seen.{whole, below, shown}
-use Rattle.labels.proofs.Jobs.{fontRow, wideRow, letterRow, fontSpan, spanRow, chunkRow, listsJob, plainJob, labelSpan, labelJob, plainVariant, lengthVariant, thirds, mixed, built}
+use Rattle.labels.proofs.Jobs.{fontRow, wideRow, letterRow, fullSpan, fontSpan, spanRow, plainSpan, chunkRow, listsJob, plainJob, labelSpan, labelJob, plainVariant, lengthVariant, thirds, mixed, built}
 
 -- ---- what is asked of a job's one chunk
 
@@ -138,6 +138,13 @@ single : compared (plainJob [] [] (chunkRow 2 (65 ∷ []) (spanRow 0 1 0 0 1 (wh
     ≡ agreed
 unfolding computed built seen
 single = refl
+
+-- the second letter is covered by a span of twice the size
+two-sizes : compared (plainJob [] [] (chunkRow 0 (65 ∷ 66 ∷ []) (plainSpan 0 1 (letterRow 1 0 1 ∷ letterRow 2 1 1 ∷ []) ∷ fullSpan 0 1 2 0x42000000 0 0 0 0 0 0 0 0 [] [] ∷ []) ∷ []))
+    (asked 2 30 150 20 (plus 0 ∷ plus 10 ∷ []))
+    ≡ agreed
+unfolding computed built seen
+two-sizes = refl
 
 -- (50 − 40) ÷ 3 for each
 thirds-exact : compared thirds (asked 4 90 630 18 (plus 0 ∷ (pos 40 over 3) ∷ (pos 80 over 3) ∷ plus 40 ∷ [])) ≡ agreed

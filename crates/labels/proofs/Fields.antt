@@ -5,13 +5,14 @@ use mathlib.Core.Path.{_≡_, refl}
 use mathlib.Core.List.{List, [], _∷_, _++_, map}
 use lib.IntN.{pos, negℤ}
 use lib.Ieee.{Float, binary32, ofBits}
-use Rattle.labels.specs.Outcome.{given}
+use Rattle.labels.specs.Outcome.{Outcome, refused, given}
 use Rattle.labels.specs.Bytes.{bytes}
 use Rattle.labels.specs.Script.Tag.{tag}
 use Rattle.labels.specs.Job.{Job, Chunk, SpanParts, Span, Glyph, Font, Shift}
 use Rattle.labels.specs.Check.{checked}
 use Rattle.labels.specs.Decoration.{Run}
 use Rattle.labels.specs.Answer.{GlyphRow, ClusterRow, SpanRow, ChunkRow, answerBytes, readAnswer}
+use Rattle.labels.specs.Layout.{numberOf, lengthOf, bufferAfter}
 use Rattle.labels.proofs.Compute.{computed}
 
 -- the float of a pattern
@@ -26,7 +27,7 @@ job =
     ++ (1 ∷ 1 ∷ 2 ∷ [])
     -- two fonts
     ++ bytes 2 1000 ++ bytes 2 800 ++ bytes 2 0xff38 ++ bytes 2 500 ++ bytes 2 0xff9c ++ bytes 2 50 ++ bytes 2 300 ++ bytes 2 75 ++ bytes 2 0xfe0c
-    ++ bytes 2 1 ++ bytes 2 2 ++ bytes 2 3 ++ bytes 2 4 ++ bytes 2 5 ++ bytes 2 6 ++ bytes 2 7 ++ bytes 2 8 ++ bytes 2 9
+    ++ bytes 2 1 ++ bytes 2 2 ++ bytes 2 3 ++ bytes 2 4 ++ bytes 2 5 ++ bytes 2 6 ++ bytes 2 7 ++ bytes 2 0x7fff ++ bytes 2 0x8000
     -- dx, dy, rotate
     ++ bytes 2 1 ++ bytes 4 0x3f800001
     ++ bytes 2 1 ++ bytes 4 0x3f800002
@@ -50,7 +51,7 @@ firstFont =
 
 secondFont : Font
 secondFont =
-    record { units = 1; ascent = pos 2; descent = pos 3; xheight = 4; underline = pos 5; thickness = 6; through = pos 7; subscript = pos 8; superscript = pos 9 }
+    record { units = 1; ascent = pos 2; descent = pos 3; xheight = 4; underline = pos 5; thickness = 6; through = pos 7; subscript = pos 32767; superscript = negℤ (pos 32768) }
 
 glyph : Glyph
 glyph =
@@ -150,6 +151,16 @@ encoded = refl
 read : readAnswer (answer ++ (9 ∷ 9 ∷ 9 ∷ 9 ∷ [])) ≡ rows
 unfolding computed at rows answer
 read = refl
+
+-- ---- a lent buffer
+
+-- the answer, and then the old bytes past it; all the old bytes of a refusal
+left : map (λ (o : Outcome (List ℕ)). bufferAfter o (7 ∷ 8 ∷ 9 ∷ [])) (given (1 ∷ 2 ∷ []) ∷ given (1 ∷ 2 ∷ 3 ∷ []) ∷ refused 4 ∷ [])
+    ≡ (1 ∷ 2 ∷ 9 ∷ []) ∷ (1 ∷ 2 ∷ 3 ∷ []) ∷ (7 ∷ 8 ∷ 9 ∷ []) ∷ []
+left = refl
+
+returned : map (λ (o : Outcome (List ℕ)). numberOf o ∷ lengthOf o ∷ []) (given (1 ∷ 2 ∷ []) ∷ refused 4 ∷ []) ≡ (0 ∷ 2 ∷ []) ∷ (4 ∷ 0 ∷ []) ∷ []
+returned = refl
 
 -- an answer with no chunk
 empty : answerBytes [] ≡ 0 ∷ 0 ∷ 0 ∷ 2 ∷ 1 ∷ 0 ∷ []

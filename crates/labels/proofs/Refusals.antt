@@ -51,6 +51,11 @@ full-list : List ℕ
 full-list =
     chunkRow 0 (65 ∷ 66 ∷ []) (plainSpan 0 1 (replicate 1024 (letterRow 1 1 2)) ∷ plainSpan 1 2 (letterRow 2 1 1 ∷ letterRow 3 1 1 ∷ []) ∷ [])
 
+-- a list of 1,023 glyphs, into which a second one is inserted
+nearly-full : List ℕ
+nearly-full =
+    chunkRow 0 (65 ∷ 66 ∷ []) (plainSpan 0 1 (replicate 1023 (letterRow 1 1 2)) ∷ plainSpan 1 2 (letterRow 2 1 1 ∷ letterRow 3 1 1 ∷ []) ∷ [])
+
 -- the label with text length 2, by some adjust value, and no width
 no-width : ℕ → List (ℕ × ℕ)
 no-width adjust = (66, 1) ∷ (67, 0x40) ∷ (71, adjust) ∷ (95, 0) ∷ (120, 0) ∷ (145, 0) ∷ []
@@ -91,6 +96,7 @@ records : List Case
 unfolding plain label changed blank
 records =
     plain [] 1
+    ∷ plain (bytes 4 0) 1
     ∷ plain (take 4 label) 1
     ∷ plain (take 152 label) 1
     ∷ plain (label ++ (0 ∷ [])) 1
@@ -264,11 +270,13 @@ spans-told = refl
 -- 7, 8 and 9, which only SpacingAndGlyphs meets, and a script without letter spacing does not where others collapse; 10 one byte short of the answer, and for a buffer of nothing; 10 also
 -- for one of twice the job's bytes, where three times hold every answer
 later : List Case
-unfolding plain label changed jobOf past-the-end full-list no-width squeezed turned
+unfolding plain label changed jobOf past-the-end full-list nearly-full no-width squeezed turned
 later =
     plain (jobOf (past-the-end ∷ [])) 7
     ∷ plain (jobOf (full-list ∷ [])) 8
+    ∷ plain (jobOf (nearly-full ∷ [])) 0
     ∷ plain (changed (no-width 1)) 9
+    ∷ plain (changed ((66, 1) ∷ (67, 0x40) ∷ (71, 1) ∷ (95, 0) ∷ [])) 0
     ∷ plain (changed (no-width 0)) 0
     ∷ plain (changed (no-width 2)) 0
     ∷ plain (squeezed (tag "Latn")) 9
@@ -284,6 +292,24 @@ later =
 later-told : numbers later ≡ told later
 unfolding computed built numbers told later
 later-told = refl
+
+-- not only the first of its kind is looked at: the second font, number, shift, glyph and span; the third glyph's place; the second chunk's text and spans
+seconds : List Case
+unfolding plain label changed jobOf textJob
+seconds =
+    plain (jobRow 0 (fontRow ∷ replicate 18 0 ∷ []) [] [] []) 4
+    ∷ plain (plainJob (0 ∷ 0x7fc00000 ∷ []) [] []) 4
+    ∷ plain (textJob [] (spanRow 0 0 0 0 0 0 0 (bytes 5 0 ∷ (4 ∷ bytes 4 0) ∷ []) [] ∷ [])) 4
+    ∷ plain (changed ((127, 2) ∷ [])) 4
+    ∷ plain (textJob [] (plainSpan 0 0 [] ∷ fontSpan 1 0 0 0 0 0 0 0 [] [] ∷ [])) 4
+    ∷ plain (changed ((133, 3) ∷ [])) 5
+    ∷ plain (jobOf (chunkRow 0 (65 ∷ []) [] ∷ chunkRow 0 (0x80 ∷ []) [] ∷ [])) 5
+    ∷ plain (jobOf (chunkRow 0 (65 ∷ []) [] ∷ chunkRow 0 (65 ∷ []) (plainSpan 0 2 [] ∷ []) ∷ [])) 6
+    ∷ []
+
+seconds-told : numbers seconds ≡ told seconds
+unfolding computed built numbers told seconds
+seconds-told = refl
 
 -- two causes: the earlier check is told; of chunks, the earlier chunk's
 order : List Case

@@ -152,6 +152,12 @@ covering : clustersIn lineOf (abcd (plainSpan 0 1 (letterRow 1 0 1 ∷ letterRow
 unfolding computed built seen abcd
 covering = refl
 
+-- font units are multiplied by the rounded quotient of size and units per em: the quotient of the product would be 0x419e5604
+quotients : clustersIn lineOf (jobRow 0 ((3 ∷ 232 ∷ 6 ∷ 0 ∷ 254 ∷ 0 ∷ 4 ∷ 0 ∷ 255 ∷ 0 ∷ 0 ∷ 128 ∷ 0 ∷ 0 ∷ 0 ∷ 0 ∷ 2 ∷ 128 ∷ []) ∷ []) [] [] (chunkRow 0 (65 ∷ []) (plainSpan 0 1 (wideRow 1 0 1 1237 ∷ []) ∷ []) ∷ []))
+    ≡ (0 ∷ 0x419e5605 ∷ 0x419e5605 ∷ 0 ∷ []) ∷ []
+unfolding computed built seen
+quotients = refl
+
 -- ---- steps 4 and 5
 
 -- the seventeen tags, and four others
@@ -261,12 +267,25 @@ right-to-left : clustersIn lineOf
 unfolding computed built seen
 right-to-left = refl
 
--- a shift down alone is a relative shift too, and it stays for what follows
-downwards : clustersIn {A = ℕ × ℕ} (λ (c : ClusterRow). (c .flags, bits (c .y)))
-    (listsJob 0 (fontRow ∷ []) [] (0 ∷ whole 3 ∷ []) [] (chunkRow 0 (65 ∷ 66 ∷ 67 ∷ []) (plainSpan 0 3 (letterRow 1 0 1 ∷ letterRow 2 1 1 ∷ letterRow 3 2 1 ∷ []) ∷ []) ∷ []))
-    ≡ (0, 0) ∷ (1, whole 3) ∷ (0, whole 3) ∷ []
-unfolding computed built seen
+-- a shift down alone is a relative shift too, and it stays for what follows, the pen included
+down : List ℕ
+down =
+    listsJob 0 (fontRow ∷ []) [] (0 ∷ whole 3 ∷ []) [] (chunkRow 0 (65 ∷ 66 ∷ 67 ∷ []) (plainSpan 0 3 (letterRow 1 0 1 ∷ letterRow 2 1 1 ∷ letterRow 3 2 1 ∷ []) ∷ []) ∷ [])
+
+downwards : clustersIn {A = ℕ × ℕ} (λ (c : ClusterRow). (c .flags, bits (c .y))) down ≡ (0, 0) ∷ (1, whole 3) ∷ (0, whole 3) ∷ []
+unfolding computed built seen down
 downwards = refl
+
+down-pen : chunksIn penOf down ≡ (whole 130, whole 53) ∷ []
+unfolding computed built seen down
+down-pen = refl
+
+-- of clusters with one byte index the first in the list comes first in text order, and each takes the index's dx: 3, then 6, and B 6 too
+equal-indexes : clustersIn lineOf
+    (plainJob (whole 3 ∷ []) [] (chunkRow 0 (65 ∷ 66 ∷ []) (plainSpan 0 2 (letterRow 1 0 1 ∷ letterRow 2 1 1 ∷ letterRow 3 0 1 ∷ []) ∷ []) ∷ []))
+    ≡ (0 ∷ whole 10 ∷ whole 10 ∷ whole 3 ∷ []) ∷ (1 ∷ whole 10 ∷ whole 10 ∷ whole 16 ∷ []) ∷ (0 ∷ whole 10 ∷ whole 10 ∷ whole 26 ∷ []) ∷ []
+unfolding computed built seen
+equal-indexes = refl
 
 -- a rotated cluster is marked, also the first; −0 is no rotation
 rotation : clustersIn angleOf
@@ -413,3 +432,11 @@ numbering : clustersIn lineOf
     ≡ (0 ∷ whole 10 ∷ whole 10 ∷ 0 ∷ []) ∷ (0 ∷ whole 10 ∷ whole 10 ∷ whole 3 ∷ []) ∷ []
 unfolding computed built seen
 numbering = refl
+
+-- and not bytes: "é" has two of them. B is character 1 of the first chunk, C the first of the second
+numbering-characters : clustersIn lineOf
+    (plainJob (0 ∷ whole 3 ∷ whole 5 ∷ []) []
+    (chunkRow 0 (0xc3 ∷ 0xa9 ∷ 66 ∷ []) (plainSpan 0 3 (letterRow 1 0 2 ∷ letterRow 2 2 1 ∷ []) ∷ []) ∷ chunkRow 0 (67 ∷ []) (plainSpan 0 1 (letterRow 3 0 1 ∷ []) ∷ []) ∷ []))
+    ≡ (0 ∷ whole 10 ∷ whole 10 ∷ 0 ∷ []) ∷ (1 ∷ whole 10 ∷ whole 10 ∷ whole 13 ∷ []) ∷ (0 ∷ whole 10 ∷ whole 10 ∷ whole 5 ∷ []) ∷ []
+unfolding computed built seen
+numbering-characters = refl
