@@ -60,7 +60,8 @@ pub fn lay_chunks(s: &[u8], job: Job, out: &mut [u8]) -> Laid
             Laid::Going(next) => before = next,
             Laid::Refused(number) => return Laid::Refused(number),
         }
-        at = after(s, at, chunk_size(from(s, at)));
+        let size = chunk_size(from(s, at));
+        at = after(s, at, size);
         left -= 1;
     }
     Laid::Going(before)
