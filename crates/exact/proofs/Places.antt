@@ -1,5 +1,5 @@
 -- Step 6 goes to the places of the clusters that take part. The same, cluster by cluster: a mark for each that says whether it does.
--- For any kind of number. Assumes nothing.
+-- For any arithmetic. Assumes nothing.
 use Prim.Native.Nat.{ℕ, _+_}
 use mathlib.Core.Path.{_≡_, refl, sym, ap, _∙_, subst}
 use mathlib.Core.Bool.{Bool, true, false, not, cond, _&&_}

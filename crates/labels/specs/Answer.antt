@@ -1,4 +1,4 @@
--- An answer's rows, their bytes, and the rows that an answer's bytes hold. Row sizes and count widths stand here once. Definitions only.
+-- An answer's rows, their bytes, how many these are, and the rows that an answer's bytes hold. Definitions only.
 pub use Rattle.labels.specs.declared.Point.{Point}
 use Prim.Native.Nat.{ℕ, _+_, _*_}
 use mathlib.Core.List.{List, [], _∷_, _++_, map, flatMap, foldr}

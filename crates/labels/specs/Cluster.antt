@@ -12,7 +12,7 @@ use Rattle.labels.specs.Job.{Font, Span, fontAt, spanAt}
 use Rattle.labels.specs.Group.{Group}
 use Rattle.labels.specs.Kind.{Kind, measure, sumAdvance, maxAdvance}
 
--- ---- demand 2's kind of number: every operation rounded once
+-- ---- demand 2's arithmetic: every operation is rounded once
 
 abbrev pub rounded : Kind
 rounded =

@@ -1,5 +1,5 @@
--- A kind of number. Steps 2 and 4 to 7 are written once, over a kind, and taken twice: `rounded` (Cluster), demand 2's floats, and
--- `exact` (Exact), demand 3's fractions. Definitions only.
+-- Numbers, and clusters that have such numbers, as the steps use them. The rules of steps 2 and 4 to 7 are written once, over any arithmetic, and taken
+-- twice: over `rounded` (Cluster), demand 2's floats, and over `exact` (Exact), demand 3's fractions. Definitions only.
 use Prim.Native.Nat.{ℕ}
 use mathlib.Core.Bool.{Bool, cond}
 use mathlib.Core.List.{List, map, foldl}
