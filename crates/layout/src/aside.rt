@@ -1,7 +1,7 @@
 // The rows of a job's chunks. Nothing may be written into the answer before it is known that no chunk is refused and that the whole answer fits. A
-// single chunk keeps to that by itself, and is put at once. So are several, if each is sure to be laid out and the longest answer that the job can
-// have fits. Any others are laid out aside, and their rows are copied; only an answer that is longer than the buffer aside is laid out a second time,
-// straight into its place. So no memory grows with the chunks.
+// single chunk sees to that by itself, and goes straight into the answer. So do several, if each is sure to be laid out and the longest answer that
+// the job can have fits. All others are laid out in a staging buffer, and their rows are copied; only an answer that is longer than that buffer is laid
+// out a second time, straight into its place. So memory does not grow with the number of chunks.
 use crate::chunks::all_sure;
 use crate::chunks::beginning;
 use crate::chunks::count_of;
@@ -21,10 +21,10 @@ ghost use Rattle.wire.specs.Splice.{splice};
 ghost use Rattle.layout.specs.Steps.{jobLaid, RowsPut};
 ghost use Rattle.layout.specs.Checked.{CheckedJob};
 
-// The bytes of the buffer aside.
+// The size of the staging buffer.
 const ASIDE: usize = 8_192;
 
-// `bytes` at `at`.
+// Copies `bytes` to `out`, from `at` on.
 fn put_bytes(out: &mut [u8], at: usize, bytes: &[u8])
     requires { ⌜ at + length (now bytes) ≤ length (now out) ⌝ }
     ensures { λ _. ⌜ now (out .exit) ≡ splice (now (out .entry)) at (now (bytes .entry)) ⌝ }
@@ -36,7 +36,7 @@ fn put_bytes(out: &mut [u8], at: usize, bytes: &[u8])
     }
 }
 
-// Several chunks, laid out aside: as `put_chunks`.
+// Lays out several chunks in the staging buffer; else as `put_chunks`.
 fn put_aside(s: &[u8], job: Job, answer: &mut [u8]) -> Laid
     requires { ⌜ CheckedJob (now s) job ⌝ }
     ensures { λ r. ⌜ RowsPut (jobLaid (now (s .entry)) job) r (now (answer .entry)) (now (answer .exit)) ⌝ }
@@ -66,6 +66,7 @@ fn has_room(job: usize, answer: usize) -> bool
     64 * job / 25 < answer
 }
 
+// Lays out all chunks. Their rows stand in `answer` if none is refused and the whole answer fits; else it is as it was.
 pub fn put_chunks(s: &[u8], job: Job, answer: &mut [u8]) -> Laid
     requires { ⌜ CheckedJob (now s) job ⌝ }
     ensures { λ r. ⌜ RowsPut (jobLaid (now (s .entry)) job) r (now (answer .entry)) (now (answer .exit)) ⌝ }

@@ -44,8 +44,8 @@ pub fn count_of(s: &[u8], job: Job) -> usize
     u8_at(s, job.chunks) as usize
 }
 
-// The progress behind the last chunk, or the number that the job is refused with. A chunk's row is put if it ends within `out`: so all rows
-// stand there if the whole answer fits, and else what stands there is of no account.
+// Lays out the chunks one after the other. Returns the progress after the last, or the number that the job is refused with. A chunk's row is written
+// if it ends within `out`, so all rows stand there if the whole answer fits; otherwise the contents of `out` are unspecified.
 pub fn lay_chunks(s: &[u8], job: Job, out: &mut [u8]) -> Laid
     requires { ⌜ CheckedJob (now s) job ⌝ }
     ensures { λ r. ⌜ (r ≡ laidFrom answerHeadSize (jobLaid (now (s .entry)) job))

@@ -1,9 +1,9 @@
-// Parts of a slice that are cut off at its end, so that every place can be asked for.
+// Parts of a slice, at any offset: what lies past its end is left out.
 ghost use mathlib.Core.Path.{_≡_};
 ghost use Prim.Native.Nat.{_+_, min};
 ghost use lib.ListN.{length, take, drop};
 
-// The place `at`, or the end where `at` is past it: nothing stands at either.
+// `at`, clamped to `s.len()`.
 pub fn cut(s: &[u8], at: usize) -> usize
     ensures { λ r. ⌜ r ≡ min at (length (now (s .entry))) ⌝ }
 {
@@ -13,7 +13,7 @@ pub fn cut(s: &[u8], at: usize) -> usize
     s.len()
 }
 
-// The slice from `at` on.
+// The bytes from `at` on.
 pub fn from(s: &[u8], at: usize) -> &[u8]
     ensures { λ r. ⌜ now r ≡ drop at (now (s .entry)) ⌝ }
 {
@@ -21,7 +21,7 @@ pub fn from(s: &[u8], at: usize) -> &[u8]
     &s[start..]
 }
 
-// The `n` bytes from `at` on.
+// The `n` bytes from `at` on, or as many as there are.
 pub fn part(s: &[u8], at: usize, n: usize) -> &[u8]
     ensures { λ r. ⌜ now r ≡ take n (drop at (now (s .entry))) ⌝ }
 {
@@ -32,7 +32,7 @@ pub fn part(s: &[u8], at: usize, n: usize) -> &[u8]
     rest
 }
 
-// The place `size` bytes after `at`, or the end.
+// The offset `size` bytes after `at`, clamped to `s.len()`. It cannot overflow.
 pub fn after(s: &[u8], at: usize, size: usize) -> usize
     ensures { λ r. ⌜ r ≡ min (at + size) (length (now (s .entry))) ⌝ }
 {
