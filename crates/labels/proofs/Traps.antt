@@ -148,7 +148,7 @@ offsets = refl
 
 -- a glyph that no span covers is left out; a cluster's size is that of the first span that covers it, whose list it stands in or not
 covering : clustersIn lineOf (abcd (plainSpan 0 1 (letterRow 1 0 1 ∷ letterRow 2 1 1 ∷ letterRow 3 3 1 ∷ []) ∷ fullSpan 0 1 3 0x42000000 0 0 0 0 0 0 0 0 [] [] ∷ []))
-    ≡ (0 ∷ whole 10 ∷ whole 10 ∷ 0 ∷ []) ∷ (0 ∷ whole 20 ∷ whole 20 ∷ whole 10 ∷ []) ∷ []
+    ≡ (0 ∷ 0x41200000 ∷ 0x41200000 ∷ 0 ∷ []) ∷ (0 ∷ 0x41a00000 ∷ 0x41a00000 ∷ 0x41200000 ∷ []) ∷ []
 unfolding computed built seen abcd
 covering = refl
 
