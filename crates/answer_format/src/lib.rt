@@ -1,7 +1,7 @@
 // Where the fields of an answer's rows stand, and how many bytes a row has: for those who write answers and those who read them.
 use wire::read::u16_at;
 ghost use mathlib.Core.Path.{_≡_};
-ghost use Rattle.labels.specs.Answer.{clusterRowSizeOf, spanRowSizeOf};
+ghost use Rattle.spec.specs.Answer.{clusterRowSizeOf, spanRowSizeOf};
 
 pub const FLOAT_BYTES: usize = 4;
 

@@ -6,7 +6,7 @@ use native.Mathlib.Nat.{not-suc-le-zero}
 use native.Mathlib.Omega.{arith}
 use lib.ListN.{drop}
 use lib.Seq.{drop-drop}
-use Rattle.labels.specs.Bytes.{rows}
+use Rattle.spec.specs.Bytes.{rows}
 
 module _ {A B : Type 0} (size : ℕ) (read : List ℕ → A) (add : A → B → B) where
   -- the first k records, added to a sum from the last of them to the first

@@ -4,12 +4,12 @@ use mathlib.Core.Path.{_≡_, refl}
 use mathlib.Core.List.{List}
 use lib.Ieee.{Float}
 use Rattle.baseline.proofs.Backwards.{added}
-use Rattle.labels.specs.declared.Font.{Font}
-use Rattle.labels.specs.Single.{+0}
-use Rattle.labels.specs.Job.{Shift}
-use Rattle.labels.specs.Bytes.{rows}
-use Rattle.labels.specs.Decode.{shiftBytes, shiftOf}
-use Rattle.labels.specs.Baseline.{baselineShiftOf, addBaselineShift, resolveBaselineShift}
+use Rattle.spec.specs.declared.Font.{Font}
+use Rattle.spec.specs.Single.{+0}
+use Rattle.spec.specs.Job.{Shift}
+use Rattle.spec.specs.Bytes.{rows}
+use Rattle.spec.specs.Decode.{shiftBytes, shiftOf}
+use Rattle.spec.specs.Baseline.{baselineShiftOf, addBaselineShift, resolveBaselineShift}
 
 module _ (f : Font) (size : Float) where
   abbrev pub addShift : Shift → Float → Float

@@ -1,15 +1,15 @@
 // The baselines that a span can be aligned to.
-use labels::AlignmentBaseline;
-use labels::DominantBaseline;
-use labels::Font;
-use labels::Span;
-use measure::ascent;
-use measure::descent;
-use measure::height;
-use measure::x_height;
+use font_metrics::ascent;
+use font_metrics::descent;
+use font_metrics::height;
+use font_metrics::x_height;
+use spec::AlignmentBaseline;
+use spec::DominantBaseline;
+use spec::Font;
+use spec::Span;
 ghost use mathlib.Core.Path.{_≡_};
 ghost use lib.ListN.{getD};
-ghost use Rattle.labels.specs.Baseline.{dominantBaselines, alignmentBaselines, alignmentOf, spanAlignment, alignmentBaselineShift};
+ghost use Rattle.spec.specs.Baseline.{dominantBaselines, alignmentBaselines, alignmentOf, spanAlignment, alignmentBaselineShift};
 
 // ---- by their numbers
 

@@ -1,19 +1,19 @@
 // The decorations of a span: how far each lies from the baseline, and how thick it is.
 use crate::LEFT_TO_RIGHT;
-use labels::Font;
-use labels::Span;
-use measure::ascent;
-use measure::height;
-use measure::line_through_position;
-use measure::underline_position;
-use measure::underline_thickness;
+use font_metrics::ascent;
+use font_metrics::height;
+use font_metrics::line_through_position;
+use font_metrics::underline_position;
+use font_metrics::underline_thickness;
+use spec::Font;
+use spec::Span;
 ghost use mathlib.Core.Path.{_≡_};
 ghost use mathlib.Core.Bool.{cond};
 ghost use Prim.Native.Nat.{_<_};
 ghost use lib.Dec.{eqb};
-ghost use Rattle.labels.specs.Single.{+0};
-ghost use Rattle.labels.specs.Job.{leftToRight};
-ghost use Rattle.labels.specs.Decoration.{wants, underOffset, overOffset, throughOffset, thicknessOf};
+ghost use Rattle.spec.specs.Single.{+0};
+ghost use Rattle.spec.specs.Job.{leftToRight};
+ghost use Rattle.spec.specs.Decoration.{wants, underOffset, overOffset, throughOffset, thicknessOf};
 
 // The bits of a span's decorations.
 pub const UNDER: u8 = 1;

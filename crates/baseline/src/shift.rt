@@ -1,18 +1,18 @@
 // The baseline shifts of a span, and their sum.
+use font_metrics::subscript_offset;
+use font_metrics::superscript_offset;
 use job_rows::rows::shift_kind_at;
 use job_rows::rows::shift_number_at;
 use job_rows::sizes::SHIFT_BYTES;
-use labels::BaselineShift;
-use labels::Font;
-use measure::subscript_offset;
-use measure::superscript_offset;
-use wire::place::from;
+use spec::BaselineShift;
+use spec::Font;
+use wire::slice::tail;
 ghost use mathlib.Core.Path.{_≡_};
 ghost use Prim.Native.Nat.{_<_};
 ghost use lib.ListN.{drop};
-ghost use Rattle.labels.specs.Bytes.{rows};
-ghost use Rattle.labels.specs.Decode.{shiftBytes, shiftOf};
-ghost use Rattle.labels.specs.Baseline.{baselineShiftOf, addBaselineShift, resolveBaselineShift};
+ghost use Rattle.spec.specs.Bytes.{rows};
+ghost use Rattle.spec.specs.Decode.{shiftBytes, shiftOf};
+ghost use Rattle.spec.specs.Baseline.{baselineShiftOf, addBaselineShift, resolveBaselineShift};
 
 pub fn baseline_shift_at(s: &[u8], at: usize) -> BaselineShift
     ensures { λ r. ⌜ r ≡ baselineShiftOf (shiftOf (drop at (now (s .entry)))) ⌝ }
@@ -41,7 +41,7 @@ pub fn resolve_baseline_shift(s: &[u8], at: usize, n: usize, font: Font, size: f
     requires { ⌜ n < 256 ⌝ }
     ensures { λ r. ⌜ r ≡ resolveBaselineShift font size (rows (λ r. shiftBytes) shiftOf n (drop at (now (s .entry)))) ⌝ }
 {
-    let shifts = from(s, at);
+    let shifts = tail(s, at);
     let mut sum: f32 = 0.0;
     let mut k = n;
     while 0 < k {

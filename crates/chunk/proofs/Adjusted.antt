@@ -5,23 +5,23 @@ use mathlib.Core.Bool.{Bool, false}
 use mathlib.Core.List.{List, map}
 use lib.ListN as listN
 use lib.Ieee.{Float}
-use Rattle.laws.proofs.All.{fold-skips}
-use Rattle.labels.specs.Outcome.{Outcome, refused, given}
-use Rattle.labels.specs.Lists.{any}
-use Rattle.labels.specs.declared.Span.{Span}
-use Rattle.labels.specs.declared.Cluster.{Cluster}
-use Rattle.labels.specs.Job.{hasLength}
-use Rattle.labels.specs.Kind.{indexes}
-use Rattle.labels.specs.Group.{groups}
-use Rattle.labels.specs.LetterSpacing.{applyLetterSpacing}
-use Rattle.labels.specs.WordSpacing.{applyWordSpacing}
-use Rattle.labels.specs.Cluster.{rounded, formGlyphClusters}
-use Rattle.labels.specs.WritingMode.{applyWritingMode}
-use Rattle.labels.specs.LengthAdjust.{adjustSpan, applyLengthAdjust}
-use Rattle.labels.specs.Layout.{collapsedClusters, adjustedClusters}
+use Rattle.spec_laws.proofs.All.{fold-skips}
+use Rattle.spec.specs.Outcome.{Outcome, refused, given}
+use Rattle.spec.specs.Lists.{any}
+use Rattle.spec.specs.declared.Span.{Span}
+use Rattle.spec.specs.declared.Cluster.{Cluster}
+use Rattle.spec.specs.Job.{hasLength}
+use Rattle.spec.specs.Arithmetic.{indexes}
+use Rattle.spec.specs.Group.{groups}
+use Rattle.spec.specs.LetterSpacing.{applyLetterSpacing}
+use Rattle.spec.specs.WordSpacing.{applyWordSpacing}
+use Rattle.spec.specs.Cluster.{rounded, formGlyphClusters}
+use Rattle.spec.specs.WritingMode.{applyWritingMode}
+use Rattle.spec.specs.LengthAdjust.{adjustSpan, applyLengthAdjust}
+use Rattle.spec.specs.Layout.{letterSpacedClusters, adjustedClusters}
 use Rattle.job_rows.specs.Rows.{fontsIn, spansIn, glyphsAt}
-use Rattle.clusters.specs.Clusters.{clustersOf, indexesIn}
-use Rattle.clusters.proofs.Rows.{clusters-indexes}
+use Rattle.cluster_table.specs.Clusters.{clustersOf, indexesIn}
+use Rattle.cluster_table.proofs.Rows.{clusters-indexes}
 use Rattle.spacing.proofs.Keeps.{letter-indexes}
 use Rattle.length_adjust.specs.declared.Adjusted.{Adjusted}
 use Rattle.length_adjust.specs.declared.Adjusted.the-variants.{Done, Refused}
@@ -41,7 +41,7 @@ module _ {s : List ℕ} {next : NextChunk} {spans text : List ℕ} (merged : Lis
       → spaced ≡ applyLetterSpacing rounded (spansIn s spans) turned
       → worded ≡ applyWordSpacing rounded text (spansIn s spans) spaced
       → applyLengthAdjust (spansIn s spans) worded ≡ adjustedClusters (jobIn s next) (chunkIn s next) (glyphsAt s merged)
-  unfolding adjustedClusters collapsedClusters
+  unfolding adjustedClusters letterSpacedClusters
   adjusted-is e₂ e₃ e₄ e₅ = rw (e₅, e₄, e₃, e₂, text-is, spans-are p) refl
 
 -- ---- the byte indexes are kept

@@ -5,18 +5,18 @@ use mathlib.Core.Bool.{Bool, true, false, _&&_}
 use mathlib.Core.List.{List, map, map-map}
 use lib.ListN.{length, drop}
 use lib.Dec.{T}
-use Rattle.laws.proofs.All.{all-weaken, all-every, all-true, first, rest}
-use Rattle.labels.specs.Lists.{All}
-use Rattle.laws.proofs.Counted.{chunk-counted}
-use Rattle.laws.proofs.ChunkPassed.{PassedGlyph, merged-passed}
-use Rattle.labels.specs.declared.Glyph.{Glyph}
-use Rattle.labels.specs.Job.{Chunk, SpanParts, spansOf, limits}
-use Rattle.labels.specs.Decode.{partsOf}
-use Rattle.labels.specs.Check.{glyphOk, unitsOk}
-use Rattle.labels.specs.Merge.{mergeGlyphs}
+use Rattle.spec_laws.proofs.All.{all-weaken, all-every, all-true, first, rest}
+use Rattle.spec.specs.Lists.{All}
+use Rattle.spec_laws.proofs.Counted.{chunk-counted}
+use Rattle.spec_laws.proofs.ChunkPassed.{PassedGlyph, merged-passed}
+use Rattle.spec.specs.declared.Glyph.{Glyph}
+use Rattle.spec.specs.Job.{Chunk, SpanParts, spansOf, limits}
+use Rattle.spec.specs.Decode.{partsOf}
+use Rattle.spec.specs.Check.{glyphOk, unitsOk}
+use Rattle.spec.specs.Merge.{mergeGlyphs}
 use Rattle.job_rows.specs.Rows.{partsIn, spansIn, glyphsAt}
-use Rattle.forming.specs.Groups.{widthsOk}
-use Rattle.answer.specs.Glyphs.{unitsIn}
+use Rattle.clustering.specs.Groups.{widthsOk}
+use Rattle.answer_rows.specs.Glyphs.{unitsIn}
 use Rattle.chunk.specs.declared.progress.NextChunk.{NextChunk}
 use Rattle.chunk.specs.Checked.{CheckedChunk, SpannedChunk, MergedChunk}
 use Rattle.chunk.specs.Steps.{chunkIn}

@@ -7,17 +7,17 @@ use native.Mathlib.Omega.{arith}
 use borrow.Author.Tests.{le-leb, lt-leb, leb-true}
 use lib.ListN.{length}
 use lib.Dec.{leb, eqb}
-use Rattle.laws.proofs.All.{neither, and-left, and-right}
-use Rattle.laws.proofs.Tests.{failed}
-use Rattle.labels.specs.Outcome.{Outcome, given, andThen}
-use Rattle.labels.specs.Lists.{any}
-use Rattle.labels.specs.declared.Span.{Span}
-use Rattle.labels.specs.declared.Cluster.{Cluster}
-use Rattle.labels.specs.Job.{Job, Chunk, spansOf, hasLength, adjustSpacingAndGlyphs}
-use Rattle.labels.specs.WordSpacing.{applyWordSpacing}
-use Rattle.labels.specs.Cluster.{rounded}
-use Rattle.labels.specs.LengthAdjust.{adjustSpan, applyLengthAdjust}
-use Rattle.labels.specs.Layout.{Progress, collapsedClusters, adjustedClusters, placeChunk, layoutChunk}
+use Rattle.spec_laws.proofs.All.{neither, and-left, and-right}
+use Rattle.spec_laws.proofs.Tests.{failed}
+use Rattle.spec.specs.Outcome.{Outcome, given, andThen}
+use Rattle.spec.specs.Lists.{any}
+use Rattle.spec.specs.declared.Span.{Span}
+use Rattle.spec.specs.declared.Cluster.{Cluster}
+use Rattle.spec.specs.Job.{Job, Chunk, spansOf, hasLength, adjustSpacingAndGlyphs}
+use Rattle.spec.specs.WordSpacing.{applyWordSpacing}
+use Rattle.spec.specs.Cluster.{rounded}
+use Rattle.spec.specs.LengthAdjust.{adjustSpan, applyLengthAdjust}
+use Rattle.spec.specs.Layout.{Progress, letterSpacedClusters, adjustedClusters, placeChunk, layoutChunk}
 use Rattle.job_rows.specs.Rows.{spansIn, partsIn}
 use Rattle.merge.specs.Source.{glyphSpan, spanGlyphs}
 use Rattle.merge.proofs.Alone.{parts-length, alone-merged}
@@ -51,7 +51,7 @@ sure-laid job st c h =
     let plain = not (any stretches (spansOf c)) in
     let merged = alone-merged (c .parts) (leb-true (length (c .parts)) _ (and-left alone plain h)) in
     let gs = spanGlyphs (c .parts) (glyphSpan (c .parts) 0) in
-    let adjusted = plain-adjusted (spansOf c) (applyWordSpacing rounded (c .text) (spansOf c) (collapsedClusters job c gs)) (failed refl (and-right alone plain h)) in
+    let adjusted = plain-adjusted (spansOf c) (applyWordSpacing rounded (c .text) (spansOf c) (letterSpacedClusters job c gs)) (failed refl (and-right alone plain h)) in
     (placeChunk job st c gs (adjusted .0), rw (merged, adjusted .1) refl)
 
 -- ---- as the code finds it: `own` is the first span that has glyphs, and `other` the next behind it

@@ -5,27 +5,27 @@ use mathlib.Core.List.{List, [], _∷_, map, flatMap, zipWith, append-nil}
 use native.Mathlib.Nat.{not-suc-le-zero}
 use lib.ListN.{length, drop}
 use lib.Ieee.{Float}
-use Rattle.labels.specs.Outcome.{given, refused, andThen}
-use Rattle.labels.specs.declared.Cluster.{Cluster}
-use Rattle.labels.specs.declared.Point.{Point}
-use Rattle.labels.specs.Job.{SpanParts}
-use Rattle.labels.specs.Decode.{chunkOf}
-use Rattle.labels.specs.Single.{+0}
-use Rattle.labels.specs.Utf8.{characters}
-use Rattle.labels.specs.Answer.{ChunkRow, chunkRowBytes}
-use Rattle.labels.specs.Layout as layout
-use Rattle.labels.specs.Layout.{rowsOf, clusterRow, spanRows, originOf, penAfter, adjustedClusters, placeChunk, resolveClustersPositionsHorizontal}
+use Rattle.spec.specs.Outcome.{given, refused, andThen}
+use Rattle.spec.specs.declared.Cluster.{Cluster}
+use Rattle.spec.specs.declared.Point.{Point}
+use Rattle.spec.specs.Job.{SpanParts}
+use Rattle.spec.specs.Decode.{chunkOf}
+use Rattle.spec.specs.Single.{+0}
+use Rattle.spec.specs.Utf8.{characters}
+use Rattle.spec.specs.Answer.{ChunkRow, chunkRowBytes}
+use Rattle.spec.specs.Layout as layout
+use Rattle.spec.specs.Layout.{rowsOf, clusterRow, spanRows, originOf, penAfter, adjustedClusters, placeChunk, resolveClustersPositionsHorizontal}
 use Rattle.job_rows.specs.Head.{headOf}
 use Rattle.job_rows.specs.Rows.{partsIn, glyphsAt}
-use Rattle.clusters.specs.Clusters.{clustersOf}
+use Rattle.cluster_table.specs.Clusters.{clustersOf}
 use Rattle.position.specs.declared.Positioned.{Positioned}
 use Rattle.position.specs.Given.{Placed}
-use Rattle.answer.specs.Chunks.{chunkRow, emptyRow, putWithin, RowWritten}
+use Rattle.answer_rows.specs.Chunks.{chunkRow, emptyRow, spliceIfFits, RowWritten}
 use Rattle.chunk.specs.declared.progress.Progress.{Progress}
 use Rattle.chunk.specs.declared.progress.NextChunk.{NextChunk}
-use Rattle.chunk.specs.declared.progress.Laid.the-variants.{Going, Refused}
+use Rattle.chunk.specs.declared.progress.ChunkResult.the-variants.{Done, Refused}
 use Rattle.chunk.specs.Checked.{SpannedChunk}
-use Rattle.chunk.specs.Steps.{chunkIn, jobIn, progressOf, laidBytes, progressFrom, laidFrom, putFrom, mergedLaid, ChunkLaid}
+use Rattle.chunk.specs.Steps.{chunkIn, jobIn, progressOf, writtenBytes, progressAfter, resultOf, bufferAfterChunks, mergedOutcome, ChunkWritten}
 
 -- the anchor that is read alone is the chunk's
 pub anchor-is : (s : List ℕ) (next : NextChunk) → chunkIn s next .anchor ≡ headOf (drop (next .at) s) .anchor
@@ -50,13 +50,13 @@ module _ (s : List ℕ) (next : NextChunk) (merged : List ℕ) where
     pub rows : rowsOf (st .chunks) ≡ row ∷ []
 
   module _ {st : layout.Progress} {pen : Point} {extent : Float} {row : ChunkRow} (o : OneRow st pen extent row) where
-    pub one-bytes : laidBytes st ≡ chunkRowBytes row
-    unfolding laidBytes flatMap
+    pub one-bytes : writtenBytes st ≡ chunkRowBytes row
+    unfolding writtenBytes flatMap
     one-bytes = ap (flatMap chunkRowBytes) (o .rows) ∙ append-nil (chunkRowBytes row)
 
     one-progress : {k : ℕ} → k ≡ length (chunkRowBytes row)
-        → _≡_ {A = Progress} (record { pen = pen; offset = next .before .offset + characters (chunkIn s next .text); length = next .before .length + k; extent = extent }) (progressFrom (next .before .length) st)
-    unfolding progressFrom
+        → _≡_ {A = Progress} (record { pen = pen; offset = next .before .offset + characters (chunkIn s next .text); length = next .before .length + k; extent = extent }) (progressAfter (next .before .length) st)
+    unfolding progressAfter
     one-progress e = rw (one-bytes, o .moved, o .offset, o .extended, e) refl
 
     -- the row is written, and its bytes and the chunk's characters are counted on
@@ -64,15 +64,15 @@ module _ (s : List ℕ) (next : NextChunk) (merged : List ℕ) where
         → {text : List ℕ} → text ≡ chunkIn s next .text
         → {k : ℕ} {old new : List ℕ} → RowWritten (next .before .length) k old new row
         → {behind : Progress} → behind ≡ record { pen = pen; offset = next .before .offset + characters text; length = next .before .length + k; extent = extent }
-        → ChunkLaid (next .before) (Going behind) old new (mergedLaid s next merged)
-    unfolding mergedLaid andThen laidFrom putFrom
+        → ChunkWritten (next .before) (Done behind) old new (mergedOutcome s next merged)
+    unfolding mergedOutcome andThen resultOf bufferAfterChunks
     one-laid e is t {old = old} written b =
         rw (e, is)
-        (record { laid = ap Going (b ∙ rw t (one-progress (written .length))); buffer = written .buffer ∙ ap (putWithin old (next .before .length)) (sym one-bytes) })
+        (record { laid = ap Done (b ∙ rw t (one-progress (written .length))); buffer = written .buffer ∙ ap (spliceIfFits old (next .before .length)) (sym one-bytes) })
 
   pub refused-merged : {k : ℕ} {old : List ℕ} → adjustedClusters (jobIn s next) (chunkIn s next) (glyphsAt s merged) ≡ refused k
-      → ChunkLaid (next .before) (Refused k) old old (mergedLaid s next merged)
-  unfolding mergedLaid andThen laidFrom putFrom
+      → ChunkWritten (next .before) (Refused k) old old (mergedOutcome s next merged)
+  unfolding mergedOutcome andThen resultOf bufferAfterChunks
   refused-merged e = rw e (record { laid = refl; buffer = refl })
 
   -- of a chunk that has no cluster

@@ -6,25 +6,25 @@ use mathlib.Core.List.{List}
 use native.Mathlib.Nat.{le-refl}
 use native.Mathlib.Omega.{arith}
 use lib.ListN.{length, drop, length-map}
-use Rattle.labels.specs.declared.Cluster.{Cluster}
-use Rattle.labels.specs.Outcome.{given}
-use Rattle.labels.specs.Decode.{partsOf, glyphOf}
-use Rattle.labels.specs.Layout.{adjustedClusters}
-use Rattle.laws.proofs.IfGiven.{of-given}
-use Rattle.laws.proofs.GlyphsShared.{Shared, adjusted-share}
-use Rattle.laws.proofs.RowSize.{placed-sized}
+use Rattle.spec.specs.declared.Cluster.{Cluster}
+use Rattle.spec.specs.Outcome.{given}
+use Rattle.spec.specs.Decode.{partsOf, glyphOf}
+use Rattle.spec.specs.Layout.{adjustedClusters}
+use Rattle.spec_laws.proofs.IfGiven.{of-given}
+use Rattle.spec_laws.proofs.GlyphsShared.{Shared, adjusted-share}
+use Rattle.spec_laws.proofs.RowSize.{placed-sized}
 use Rattle.job_rows.specs.Rows.{glyphsAt, partsIn}
-use Rattle.answer.specs.Chunks.{chunkRowMost}
-use Rattle.answer.proofs.RowMost.{placed-most}
+use Rattle.answer_rows.specs.Chunks.{chunkRowMax}
+use Rattle.answer_rows.proofs.RowMost.{placed-most}
 use Rattle.chunk.specs.declared.progress.NextChunk.{NextChunk}
 use Rattle.chunk.specs.Checked.{MergedChunk}
-use Rattle.chunk.specs.Steps.{chunkIn, jobIn, progressOf, laidBytes}
+use Rattle.chunk.specs.Steps.{chunkIn, jobIn, progressOf, writtenBytes}
 use Rattle.chunk.proofs.Placed.{chunkPlaced}
 
 pub placed-short : {s : List ℕ} {next : NextChunk} {spans merged : List ℕ} → MergedChunk s next spans merged
     → (cs : List Cluster) → adjustedClusters (jobIn s next) (chunkIn s next) (glyphsAt s merged) ≡ given cs
-    → length (laidBytes (chunkPlaced s next merged cs)) ≤ chunkRowMost (length spans) (length merged) (length cs)
-unfolding laidBytes partsIn glyphsAt
+    → length (writtenBytes (chunkPlaced s next merged cs)) ≤ chunkRowMax (length spans) (length merged) (length cs)
+unfolding writtenBytes partsIn glyphsAt
 placed-short {s} {next} {spans} {merged} m cs e =
     let gs = glyphsAt s merged in
     let shared = of-given (Shared (length gs) (length gs)) _ cs (adjusted-share (jobIn s next) (chunkIn s next) gs) e in

@@ -7,10 +7,10 @@ use native.Mathlib.Omega.{arith}
 use lib.ListN.{length, take, drop, length-append, length-take}
 use lib.Seq.{drop-drop, take-at}
 use lib.Dec.{leb→le}
-use Rattle.laws.proofs.All.{all-every, first, rest}
-use Rattle.labels.specs.Job.{limits}
-use Rattle.labels.specs.Bytes.{rows}
-use Rattle.labels.specs.Decode.{spanSize, partsOf, spansAt, spanCount, spanBytes, chunkFits, chunkOf}
+use Rattle.spec_laws.proofs.All.{all-every, first, rest}
+use Rattle.spec.specs.Job.{limits}
+use Rattle.spec.specs.Bytes.{rows}
+use Rattle.spec.specs.Decode.{spanSize, partsOf, spanCountAt, spanCount, spanBytes, chunkFits, chunkOf}
 use Rattle.job_rows.specs.Rows.{partsIn, spanPlaces}
 use Rattle.job_rows.proofs.ByNumber.{parts-places}
 use Rattle.chunk.specs.declared.progress.NextChunk.{NextChunk}
@@ -40,12 +40,12 @@ module _ {s : List ℕ} {at : ℕ} (k : ShapedChunk s at) {chunk : List ℕ} (he
   few-spans e = rw (e, here) (leb→le _ _ (first (rest (all-every _ (k .fits)))))
 
   -- as many places as there are spans, counted from the first
-  pub places-of : (places : List ℕ) {m n held : ℕ} → m ≡ spansAt chunk → n ≡ spanCount chunk → n ≡ held
+  pub places-of : (places : List ℕ) {m n held : ℕ} → m ≡ spanCountAt chunk → n ≡ spanCount chunk → n ≡ held
       → places ≡ spanPlaces s (at + m + 1) held → partsIn s places ≡ chunkOf (drop at s) .parts
   unfolding chunkOf spanBytes
   places-of places m-is n-is same e =
-      let began : drop (at + spansAt (drop at s) + 1) s ≡ spanBytes (drop at s) =
-      ap (λ (i : ℕ). drop i s) (add-assoc at (spansAt (drop at s)) 1) ∙ sym (drop-drop (spansAt (drop at s) + 1) at s) in
+      let began : drop (at + spanCountAt (drop at s) + 1) s ≡ spanBytes (drop at s) =
+      ap (λ (i : ℕ). drop i s) (add-assoc at (spanCountAt (drop at s)) 1) ∙ sym (drop-drop (spanCountAt (drop at s) + 1) at s) in
       rw (e, parts-places, sym same, m-is, n-is, here) (ap (rows spanSize partsOf (spanCount (drop at s))) began)
 
 -- what check 3 has shown of a chunk, and the spans that are found

@@ -5,11 +5,11 @@ use mathlib.Core.List.{List}
 use lib.ListN.{length, take, drop}
 use lib.Dec.{T}
 use lib.Ieee.{Float}
-use Rattle.labels.specs.Outcome.{given}
-use Rattle.labels.specs.Job.{limits}
-use Rattle.labels.specs.Decode.{chunkFits, chunkOf}
-use Rattle.labels.specs.Check.{chunkOk, spansOk}
-use Rattle.labels.specs.Merge.{mergeGlyphs}
+use Rattle.spec.specs.Outcome.{given}
+use Rattle.spec.specs.Job.{limits}
+use Rattle.spec.specs.Decode.{chunkFits, chunkOf}
+use Rattle.spec.specs.Check.{chunkOk, spansOk}
+use Rattle.spec.specs.Merge.{mergeGlyphs}
 use Rattle.job_rows.specs.Rows.{partsIn, glyphsAt}
 use Rattle.merge.specs.Source.{spanGlyphs}
 use Rattle.chunk.specs.declared.progress.NextChunk.{NextChunk}

@@ -5,10 +5,10 @@ use mathlib.Core.Bool.{Bool, _&&_}
 use mathlib.Core.List.{List}
 use lib.ListN.{length}
 use lib.Ieee.{Float}
-use Rattle.laws.specs.Unmoved.{Unmoved}
-use Rattle.labels.specs.Lists.{isEmpty, All}
-use Rattle.labels.specs.Job.{Job}
-use Rattle.clusters.specs.Clusters.{clustersOf}
+use Rattle.spec_laws.specs.Unmoved.{Unmoved}
+use Rattle.spec.specs.Lists.{isEmpty, All}
+use Rattle.spec.specs.Job.{Job}
+use Rattle.cluster_table.specs.Clusters.{clustersOf}
 use Rattle.text_order.specs.Ordered.{Sortable}
 use Rattle.chunk.specs.declared.progress.NextChunk.{NextChunk}
 use Rattle.chunk.specs.Steps.{chunkIn}

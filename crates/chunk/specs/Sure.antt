@@ -4,9 +4,9 @@ use mathlib.Core.Bool.{Bool, cond, not, _&&_}
 use mathlib.Core.List.{List}
 use lib.ListN.{length}
 use lib.Dec.{leb, eqb}
-use Rattle.labels.specs.Lists.{any}
-use Rattle.labels.specs.declared.Span.{Span}
-use Rattle.labels.specs.Job.{Chunk, spansOf, hasLength, adjustSpacingAndGlyphs}
+use Rattle.spec.specs.Lists.{any}
+use Rattle.spec.specs.declared.Span.{Span}
+use Rattle.spec.specs.Job.{Chunk, spansOf, hasLength, adjustSpacingAndGlyphs}
 use Rattle.merge.specs.Source.{glyphSpan}
 
 -- the span's glyphs are stretched to a text length

@@ -4,14 +4,14 @@ use job_rows::sizes::SPAN_FIXED_AT;
 use length_adjust::Adjusted;
 use length_adjust::apply_length_adjust;
 use text_order::logical_order;
-use wire::place::from;
 use wire::read::u8_at;
+use wire::slice::tail;
 ghost use mathlib.Core.Path.{_≡_};
 ghost use lib.ListN.{drop};
-ghost use Rattle.labels.specs.Lists.{any};
-ghost use Rattle.labels.specs.Decode.{spanOf};
-ghost use Rattle.labels.specs.LengthAdjust.{applyLengthAdjust};
-ghost use Rattle.clusters.specs.Clusters.{clustersOf};
+ghost use Rattle.spec.specs.Lists.{any};
+ghost use Rattle.spec.specs.Decode.{spanOf};
+ghost use Rattle.spec.specs.LengthAdjust.{applyLengthAdjust};
+ghost use Rattle.cluster_table.specs.Clusters.{clustersOf};
 ghost use Rattle.job_rows.specs.Rows.{spansIn};
 ghost use Rattle.length_adjust.specs.Answer.{adjustedOf};
 ghost use Rattle.chunk.specs.Placing.{Unadjusted};
@@ -21,7 +21,7 @@ ghost use Rattle.chunk.specs.Sure.{lengthAsked};
 fn length_at(s: &[u8], at: usize, stretched: bool) -> bool
     ensures { λ r. ⌜ r ≡ lengthAsked stretched (spanOf (drop at (now (s .entry)))) ⌝ }
 {
-    let row = from(s, at);
+    let row = tail(s, at);
     let fixed = u8_at(row, SPAN_FIXED_AT) == 1;
     if stretched {
         return fixed & (u8_at(row, SPAN_ADJUST_AT) == 1);

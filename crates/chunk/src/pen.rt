@@ -1,16 +1,16 @@
 // The pen: where a chunk begins, and where it leaves off.
 use job_rows::sizes::CHUNK_X_AT;
 use job_rows::sizes::CHUNK_Y_AT;
-use labels::Job;
-use labels::Point;
-use wire::place::from;
+use spec::Job;
+use spec::Point;
 use wire::read::f32_at;
 use wire::read::u8_at;
+use wire::slice::tail;
 ghost use mathlib.Core.Path.{_≡_};
 ghost use mathlib.Core.Bool.{cond};
 ghost use lib.ListN.{drop};
-ghost use Rattle.labels.specs.Decode.{chunkOf};
-ghost use Rattle.labels.specs.Layout.{originOf, penAfter};
+ghost use Rattle.spec.specs.Decode.{chunkOf};
+ghost use Rattle.spec.specs.Layout.{originOf, penAfter};
 
 // A chunk's own value where its flag is set, else the pen's.
 fn own_or(set: bool, own: f32, pen: f32) -> f32
@@ -23,7 +23,7 @@ fn own_or(set: bool, own: f32, pen: f32) -> f32
 pub fn origin_of(pen: Point, s: &[u8], at: usize) -> Point
     ensures { λ r. ⌜ r ≡ originOf pen (chunkOf (drop at (now (s .entry)))) ⌝ }
 {
-    let chunk = from(s, at);
+    let chunk = tail(s, at);
     let flags = u8_at(chunk, 0);
     Point {
         x: own_or(flags % 2 == 1, f32_at(chunk, CHUNK_X_AT), pen.x),

@@ -1,18 +1,18 @@
 // Step 7 of a chunk.
 use crate::progress::NextChunk;
-use clusters::cluster_at;
+use cluster_table::cluster_at;
 use job_rows::rows::anchor_at;
-use labels::Job;
 use position::Positioned;
 use position::line::positioned_between;
 use position::line::resolve_clusters_positions_horizontal;
-use position::shifts::turn_shifts;
+use position::shifts::rotate_shifts;
+use spec::Job;
 use text_order::character_numbers;
 use text_order::logical_order;
 use wire::read::u16_at;
 ghost use mathlib.Core.Path.{_≡_};
-ghost use Rattle.labels.specs.Layout.{resolveClustersPositionsHorizontal};
-ghost use Rattle.clusters.specs.Clusters.{clustersOf};
+ghost use Rattle.spec.specs.Layout.{resolveClustersPositionsHorizontal};
+ghost use Rattle.cluster_table.specs.Clusters.{clustersOf};
 ghost use Rattle.job_rows.specs.Rows.{jobAt};
 ghost use Rattle.position.specs.Given.{Placed};
 ghost use Rattle.chunk.specs.Steps.{jobIn, chunkIn};
@@ -46,7 +46,7 @@ pub fn place_clusters(
     let before = next.before;
     let anchor = anchor_at(s, next.at);
     if is_still(s, job) {
-        turn_shifts(job.mode, floats, words, n);
+        rotate_shifts(job.mode, floats, words, n);
         let any = cluster_at(floats, words, 0);
         return positioned_between(anchor, any, any, floats, words, n);
     }

@@ -1,6 +1,6 @@
 // How far the layout of a job has come, and the chunk that is next.
-use labels::Job;
-use labels::Point;
+use spec::Job;
+use spec::Point;
 
 // How far the layout has come: the pen, how many characters came before, how many bytes the answer has, and the extent of the last chunk, 0 before
 // the first.
@@ -19,7 +19,7 @@ pub struct NextChunk {
 }
 
 // The progress behind a chunk, or the number that the job is refused with.
-pub enum Laid {
-    Going(Progress),
+pub enum ChunkResult {
+    Done(Progress),
     Refused(u8),
 }

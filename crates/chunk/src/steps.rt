@@ -3,27 +3,27 @@ use crate::lengths::adjust_lengths;
 use crate::pen::origin_of;
 use crate::pen::pen_after;
 use crate::place::place_clusters;
-use crate::progress::Laid;
+use crate::progress::ChunkResult;
 use crate::progress::NextChunk;
 use crate::progress::Progress;
-use answer::chunk::Frame;
-use answer::chunk::write_chunk_row;
-use answer::chunk::write_empty_row;
-use forming::chunk::form_clusters;
+use answer_rows::chunk::Frame;
+use answer_rows::chunk::write_chunk_row;
+use answer_rows::chunk::write_empty_row;
+use clustering::chunk::form_clusters;
 use job_rows::sizes::text_of;
-use labels::Point;
 use length_adjust::Adjusted;
 use spacing::letter::apply_letter_spacing;
 use spacing::mode::apply_writing_mode;
 use spacing::word::apply_word_spacing;
+use spec::Point;
 use text_order::character_count;
-use wire::place::from;
+use wire::slice::tail;
 ghost use mathlib.Core.Path.{_≡_};
 ghost use Prim.Native.Nat.{_+_, _≤_};
 ghost use lib.ListN.{length};
-ghost use Rattle.labels.specs.Utf8.{characters};
-ghost use Rattle.forming.specs.Groups.{clustersIn};
-ghost use Rattle.chunk.specs.Steps.{ChunkLaid, mergedLaid};
+ghost use Rattle.spec.specs.Utf8.{characters};
+ghost use Rattle.clustering.specs.Groups.{clustersIn};
+ghost use Rattle.chunk.specs.Steps.{ChunkWritten, mergedOutcome};
 ghost use Rattle.chunk.specs.Checked.{MergedChunk, TablesFor};
 
 // Behind a chunk with this text, whose row has `row` bytes.
@@ -53,14 +53,14 @@ pub fn layout_merged(
     order: &mut [u32],
     spare: &mut [u32],
     out: &mut [u8],
-) -> Laid
+) -> ChunkResult
     requires { ⌜ MergedChunk (now s) next (now spans) (now merged)
         × TablesFor (clustersIn (now s) (now spans) (now merged)) (now floats) (now words) (now order) (now spare) ⌝ }
-    ensures { λ r. ⌜ ChunkLaid (next .before) r (now (out .entry)) (now (out .exit)) (mergedLaid (now (s .entry)) next (now (merged .entry))) ⌝ }
+    ensures { λ r. ⌜ ChunkWritten (next .before) r (now (out .entry)) (now (out .exit)) (mergedOutcome (now (s .entry)) next (now (merged .entry))) ⌝ }
 {
     let job = next.job;
     let before = next.before;
-    let chunk = from(s, next.at);
+    let chunk = tail(s, next.at);
     let text = text_of(chunk);
     let n = form_clusters(s, job.fonts, spans, merged, floats, words);
     apply_writing_mode(job.mode, floats, words, n);
@@ -68,13 +68,13 @@ pub fn layout_merged(
     apply_word_spacing(s, text, spans, floats, words, n);
     let adjusted = adjust_lengths(s, spans, order, spare, floats, words, n);
     match adjusted {
-        Adjusted::Refused(number) => return Laid::Refused(number),
+        Adjusted::Refused(number) => return ChunkResult::Refused(number),
         Adjusted::Done => (),
     }
     // A chunk that has no cluster keeps the pen and has no span rows.
     if n == 0 {
         let row = write_empty_row(out, before.length, before.pen);
-        return Laid::Going(progress_behind(before, text, before.pen, 0.0, row));
+        return ChunkResult::Done(progress_behind(before, text, before.pen, 0.0, row));
     }
     let placed = place_clusters(s, next, text, order, spare, floats, words, n);
     let origin = origin_of(before.pen, s, next.at);
@@ -91,5 +91,5 @@ pub fn layout_merged(
         &floats[..n],
         &words[..n],
     );
-    Laid::Going(progress_behind(before, text, pen, placed.extent, row))
+    ChunkResult::Done(progress_behind(before, text, pen, placed.extent, row))
 }

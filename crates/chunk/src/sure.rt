@@ -4,7 +4,7 @@ use crate::lengths::any_length;
 use merge::source::glyph_span;
 ghost use mathlib.Core.Path.{_≡_};
 ghost use lib.ListN.{drop};
-ghost use Rattle.labels.specs.Decode.{chunkOf};
+ghost use Rattle.spec.specs.Decode.{chunkOf};
 ghost use Rattle.chunk.specs.Checked.{ShapedChunk};
 ghost use Rattle.chunk.specs.Sure.{sure};
 

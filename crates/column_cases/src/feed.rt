@@ -3,10 +3,10 @@ use crate::run;
 use crate::run::Run;
 use column_window::add_extent;
 use std::num::wrapping_add_u32;
-use wire::place::from;
 use wire::read::f32_of;
 use wire::read::u16_at;
 use wire::read::u32_at;
+use wire::slice::tail;
 
 const ROW_SIZE: usize = 10;
 
@@ -33,7 +33,7 @@ pub fn feed_rows(window: &mut [u32], rows: &[u8]) -> Run {
     let mut answers = run::empty();
     let mut at: usize = 0;
     while ROW_SIZE <= rows.len() - at {
-        answers = feed_row(window, from(rows, at), answers);
+        answers = feed_row(window, tail(rows, at), answers);
         at += ROW_SIZE;
     }
     answers

@@ -7,9 +7,9 @@ mod run;
 use column_window::WINDOW_WORDS;
 use column_window::open_window;
 use libc::STDOUT_FILENO;
-use wire::place::from;
 use wire::read::u8_at;
 use wire::read::u32_at;
+use wire::slice::tail;
 ghost use Prim.Native.Nat.{_≤_};
 
 // Of a longer file no more is read.
@@ -42,7 +42,7 @@ fn show_window(window: &mut [u32], file: &[u8]) {
     io::write_all(STDOUT_FILENO, b" ");
     io::print_decimal(STDOUT_FILENO, opened.number as u64);
     io::write_all(STDOUT_FILENO, b"\n");
-    run::show(feed::feed_rows(window, from(file, ROWS_AT)));
+    run::show(feed::feed_rows(window, tail(file, ROWS_AT)));
 }
 
 // Whether each word past the window is as it was before the opening.

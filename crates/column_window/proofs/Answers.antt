@@ -8,9 +8,9 @@ use lib.ListN.{length, drop, length-map}
 use lib.Dec.{T, ltb}
 use lib.Ieee.{Float, binary32, fits, ofBits}
 use borrow.Author.Tests.{ltb-true, ltb-false, lt-ltb, le-ltb, ne-eqb}
-use Rattle.laws.proofs.All.{and-left, and-right}
-use Rattle.labels.specs.Single.{+0}
-use Rattle.labels.specs.Outcome.{refused, given}
+use Rattle.spec_laws.proofs.All.{and-left, and-right}
+use Rattle.spec.specs.Single.{+0}
+use Rattle.spec.specs.Outcome.{refused, given}
 use Rattle.column_window.specs.Window.{Window, labelsMost, spanOk, extentOk, with, empty, added}
 use Rattle.column_window.specs.Words.{windowWords, spanWord, countWord, placeWord, patternOf, openedWords, addedWords, widthPattern, Ready}
 use Rattle.column_window.specs.State.{Holds}

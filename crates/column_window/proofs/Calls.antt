@@ -4,7 +4,7 @@ use mathlib.Core.Path.{_≡_, refl}
 use mathlib.Core.List.{List, _++_}
 use lib.ListN.{length}
 use lib.Ieee.{Float}
-use Rattle.labels.specs.Outcome.{Outcome}
+use Rattle.spec.specs.Outcome.{Outcome}
 use Rattle.column_window.specs.Window.{Window, empty, added}
 use Rattle.column_window.specs.Scroll.{after, answers, scroll, SameWidths}
 use Rattle.column_window.specs.State.{Holds}

@@ -8,7 +8,7 @@ use lib.Ieee.{Float, nan, inf, fin, up, down, binary32, lt, le, eq, fits, ofBits
 use lib.Ieee.Bits.{ofBits-toBits, ofBits-fits}
 use lib.Ieee.Fits.{and-l, and-r}
 use borrow.Author.Tests.{eq-eqb}
-use Rattle.labels.specs.Single.{+0}
+use Rattle.spec.specs.Single.{+0}
 use Rattle.column_window.specs.Window.{extentOk, plain}
 use Rattle.column_window.specs.Words.{patternOf}
 use Rattle.column_window.specs.State.{isExtent}

@@ -9,9 +9,9 @@ use lib.Seq.{drop-nil, set-append-seam, getD-append-add, getD-drop, take-at, dro
 use lib.Dec.{leb, ltb}
 use lib.Ieee.{Float, binary32, ofBits}
 use borrow.Author.Tests.{leb-true, ltb-true, ltb-false, lt-ltb, le-ltb}
-use Rattle.laws.proofs.All.{and-left, and-right}
-use Rattle.labels.specs.Lists.{all}
-use Rattle.column_window.specs.Window.{Window, spanOk, spanMost, plain, widest, lastOf, widthOf, with, empty}
+use Rattle.spec_laws.proofs.All.{and-left, and-right}
+use Rattle.spec.specs.Lists.{all}
+use Rattle.column_window.specs.Window.{Window, spanOk, spanMax, plain, widest, lastOf, widthOf, with, empty}
 use Rattle.column_window.specs.Words.{highest, tails, windowWords, openedWords, addedWords, widthPattern}
 use Rattle.column_window.specs.State.{isExtent, Holds}
 use Rattle.column_window.proofs.Highest.{highest-append, highest-snoc, length-tails, getD-tails}
@@ -94,7 +94,7 @@ module _ (b : List ℕ) (w : Window) (h : Holds b w) (e : Float) (x : ℕ) (is :
   put : set (h .running ++ h .behind) (length (h .running)) x ≡ block ++ rest
   put = let r = h .room in let p = h .place in let l = span-range (w .span) (h .span) .1 in put-running (h .running) (h .behind) x (omega arith)
 
-  put-room : spanMost ≤ length (block ++ rest)
+  put-room : spanMax ≤ length (block ++ rest)
   put-room = rw (ap length (sym put) ∙ length-set (h .running ++ h .behind) (length (h .running)) x) (h .room)
 
   all-more : h .before ++ block ≡ (h .before ++ h .running) ++ (x ∷ [])

@@ -5,8 +5,8 @@ use mathlib.Core.Bool.{true, false}
 use mathlib.Core.List.{List, [], _∷_, _++_}
 use lib.ListN.{replicate}
 use lib.Ieee.{Float, binary32, lt, le, eq, ofBits}
-use Rattle.labels.specs.Single.{+0}
-use Rattle.labels.specs.Outcome.{refused, given}
+use Rattle.spec.specs.Single.{+0}
+use Rattle.spec.specs.Outcome.{refused, given}
 use Rattle.column_window.specs.Window.{Window, spanOk, extentOk, plain, lastOf, larger, widest, widthOf, empty, with, added}
 use Rattle.column_window.specs.Scroll.{scroll, accepted}
 use Rattle.column_window.specs.Words.{highest, tails, openedWords, addedWords, widthPattern}

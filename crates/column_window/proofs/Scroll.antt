@@ -9,7 +9,7 @@ use lib.ListN.{length, take, getD, length-append}
 use lib.Dec.{ltb}
 use lib.Ieee.{Float}
 use borrow.Author.Tests.{ltb-true, ltb-false, lt-ltb, le-ltb}
-use Rattle.labels.specs.Outcome.{Outcome, refused, given}
+use Rattle.spec.specs.Outcome.{Outcome, refused, given}
 use Rattle.column_window.specs.Window.{Window, labelsMost, extentOk, plain, widest, widthOf, with, empty, added}
 use Rattle.column_window.specs.Scroll.{after, answers, scroll, accepted, SameWidths}
 use Rattle.column_window.proofs.Widest.{last-within}

@@ -9,8 +9,8 @@ use lib.Seq.{drop-append-le, drop-append-add}
 use lib.Dec.{ltb}
 use lib.Ieee.{Float, binary32, ofBits}
 use borrow.Author.Tests.{ltb-true, ltb-false, lt-ltb}
-use Rattle.laws.proofs.All.{and-left, and-right}
-use Rattle.labels.specs.Lists.{all}
+use Rattle.spec_laws.proofs.All.{and-left, and-right}
+use Rattle.spec.specs.Lists.{all}
 use Rattle.column_window.specs.Window.{larger, widest, lastOf}
 use Rattle.column_window.specs.Words.{highest}
 use Rattle.column_window.specs.State.{isExtent}

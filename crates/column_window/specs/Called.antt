@@ -6,8 +6,8 @@ use mathlib.Core.List.{List, [], _∷_}
 use lib.ListN.{length, drop}
 use lib.Dec.{eqb, ltb}
 use lib.Ieee.{Float, binary32, ofBits}
-use Rattle.labels.specs.Single.{+0}
-use Rattle.labels.specs.Outcome.{Outcome, refused, given}
+use Rattle.spec.specs.Single.{+0}
+use Rattle.spec.specs.Outcome.{Outcome, refused, given}
 use Rattle.column_window.specs.Window.{Window, labelsMost, spanOk, extentOk, added, empty}
 use Rattle.column_window.specs.Scroll.{shown, after}
 use Rattle.column_window.specs.Words.{windowWords, spanWord, countWord, placeWord, patternOf, openedWords, addedWords, widthPattern}

@@ -4,7 +4,7 @@ use mathlib.Core.Path.{_≡_}
 use mathlib.Core.List.{List, [], _∷_}
 use lib.ListN.{take, getD}
 use lib.Ieee.{Float}
-use Rattle.labels.specs.Outcome.{Outcome, refused, given}
+use Rattle.spec.specs.Outcome.{Outcome, refused, given}
 use Rattle.column_window.specs.Window.{Window, widthOf, added, empty}
 
 -- the width that is shown for a label, and the window after it: a refused label leaves the window unchanged

@@ -6,8 +6,8 @@ use mathlib.Core.List.{List, _∷_, _++_, map}
 use lib.ListN.{length, getD}
 use lib.Dec.{ltb}
 use lib.Ieee.{binary32, ofBits}
-use Rattle.labels.specs.Lists.{all}
-use Rattle.column_window.specs.Window.{Window, spanOk, spanMost, lastOf}
+use Rattle.spec.specs.Lists.{all}
+use Rattle.column_window.specs.Window.{Window, spanOk, spanMax, lastOf}
 use Rattle.column_window.specs.Words.{highest}
 
 -- below the pattern of an infinity: a float that is finite, with the sign clear. Such floats have the order of their patterns.
@@ -21,7 +21,7 @@ pub record Holds (b : List ℕ) (w : Window) : Type 0 where
   pub running : List ℕ
   pub behind : List ℕ
   pub words : b ≡ w .span ∷ length (before ++ running) ∷ length running ∷ highest running ∷ (running ++ behind)
-  pub room : spanMost ≤ length (running ++ behind)
+  pub room : spanMax ≤ length (running ++ behind)
   pub span : spanOk (w .span) ≡ true
   pub place : length running < w .span
   pub seen : w .seen ≡ map (ofBits binary32) (before ++ running)

@@ -6,19 +6,19 @@ use lib.ListN.{length, drop}
 use lib.Dec.{leb, ltb}
 use lib.Ieee.{Float, lt, le}
 use lib.Ieee.Scale.{finite}
-use Rattle.labels.specs.Single.{+0, isZero}
-use Rattle.labels.specs.Outcome.{Outcome, refused, given}
+use Rattle.spec.specs.Single.{+0, isZero}
+use Rattle.spec.specs.Outcome.{Outcome, refused, given}
 
 -- a window takes up to 65,535 label extents
 abbrev pub labelsMost : ℕ
 labelsMost = 65535
 
 -- a span has 1 to 64 labels
-abbrev pub spanMost : ℕ
-spanMost = 64
+abbrev pub spanMax : ℕ
+spanMax = 64
 
 unfoldable pub spanOk : ℕ → Bool
-spanOk n = leb 1 n && leb n spanMost
+spanOk n = leb 1 n && leb n spanMax
 
 -- finite, and not below zero
 unfoldable pub extentOk : Float → Bool

@@ -5,7 +5,7 @@ use mathlib.Core.List.{List, [], _∷_, _++_}
 use lib.ListN.{length, take, drop, set, getD, replicate}
 use lib.Dec.{ltb}
 use lib.Ieee.{Float, binary32, toBits}
-use Rattle.column_window.specs.Window.{labelsMost, spanMost, plain}
+use Rattle.column_window.specs.Window.{labelsMost, spanMax, plain}
 
 -- ---- what stands where: the span, how many labels were accepted, how many of them are in the running block, the highest of these, and the block
 
@@ -26,7 +26,7 @@ blockWords b = drop 4 b
 
 -- four words, and a block for the longest span
 abbrev pub windowWords : ℕ
-windowWords = 4 + spanMost
+windowWords = 4 + spanMax
 
 -- ---- patterns
 
@@ -72,6 +72,6 @@ widthPattern b = max (getD (blockWords b) (placeWord b) 0) (bestWord b)
 -- what a label asks of the words that it is put into: then nothing is read or written outside them
 pub record Ready (b : List ℕ) : Type 0 where
   pub room : windowWords ≤ length b
-  pub span : spanWord b ≤ spanMost
+  pub span : spanWord b ≤ spanMax
   pub place : placeWord b < spanWord b
   pub count : countWord b < labelsMost

@@ -19,7 +19,7 @@ const BAD_WINDOW: u32 = 19;
 fn span_ok(span: u32) -> bool
     ensures { λ r. ⌜ r ≡ spanOk span ⌝ }
 {
-    (1 <= span) & (span <= words::SPAN_MOST)
+    (1 <= span) & (span <= words::SPAN_MAX)
 }
 
 pub fn open_number(window: &[u32], span: u32) -> u32

@@ -19,9 +19,9 @@ pub const BEST: usize = 3;
 // The block: as many words as the span has labels.
 pub const BLOCK: usize = 4;
 
-pub const SPAN_MOST: u32 = 64;
+pub const SPAN_MAX: u32 = 64;
 
-pub const WORDS: usize = BLOCK + SPAN_MOST as usize;
+pub const WORDS: usize = BLOCK + SPAN_MAX as usize;
 
 // The word at a place, 0 where so few are lent.
 pub fn word_at(window: &[u32], at: usize) -> u32

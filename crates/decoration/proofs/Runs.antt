@@ -11,16 +11,16 @@ use lib.Ieee.{Float}
 use lib.ListN.{length, getD, take, drop, length-append, take-append-drop}
 use lib.Seq.{take-suc, take-all}
 use borrow.Author.Tests.{lt-ltb, le-ltb}
-use Rattle.labels.specs.Single.{_+ᶠ_}
-use Rattle.labels.specs.declared.Span.{Span}
-use Rattle.labels.specs.declared.Run.{Run}
-use Rattle.labels.specs.declared.Cluster.{Cluster}
-use Rattle.labels.specs.Merge.{spanContains}
-use Rattle.labels.specs.Decoration.{Collecting, waiting, started, Walking, ended, extendRun, collectNext, collectDecorationSpans}
-use Rattle.labels.specs.Answer.{runSize, runBytes}
-use Rattle.laws.proofs.All.{cond-keeps}
-use Rattle.laws.proofs.AnswerLength.{length-equal, length-run}
-use Rattle.laws.proofs.RunsShared.{span-runs, covered-few}
+use Rattle.spec.specs.Single.{_+ᶠ_}
+use Rattle.spec.specs.declared.Span.{Span}
+use Rattle.spec.specs.declared.Run.{Run}
+use Rattle.spec.specs.declared.Cluster.{Cluster}
+use Rattle.spec.specs.Merge.{spanContains}
+use Rattle.spec.specs.Decoration.{Collecting, waiting, started, Walking, ended, extendRun, collectNext, collectDecorationSpans}
+use Rattle.spec.specs.Answer.{runSize, runBytes}
+use Rattle.spec_laws.proofs.All.{cond-keeps}
+use Rattle.spec_laws.proofs.AnswerLength.{length-equal, length-run}
+use Rattle.spec_laws.proofs.RunsShared.{span-runs, covered-few}
 use Rattle.wire.specs.Splice.{splice}
 use Rattle.wire.proofs.Splice.{splice-then}
 use Rattle.decoration.specs.declared.OpenRun.{OpenRun}

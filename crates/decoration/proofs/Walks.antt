@@ -8,12 +8,12 @@ use native.Mathlib.Omega.{arith}
 use lib.Ieee.{Float}
 use lib.ListN.{length, getD, take}
 use lib.Seq.{take-take, length-take-le}
-use Rattle.labels.specs.declared.Span.{Span}
-use Rattle.labels.specs.declared.Run.{Run}
-use Rattle.labels.specs.Answer.{runSize, runBytes}
-use Rattle.labels.specs.Decoration.{collectDecorationSpans}
-use Rattle.clusters.specs.Clusters.{Cluster, clusterOf, clustersOf}
-use Rattle.clusters.proofs.Rows.{clusters-length, clusters-at}
+use Rattle.spec.specs.declared.Span.{Span}
+use Rattle.spec.specs.declared.Run.{Run}
+use Rattle.spec.specs.Answer.{runSize, runBytes}
+use Rattle.spec.specs.Decoration.{collectDecorationSpans}
+use Rattle.cluster_table.specs.Clusters.{Cluster, clusterOf, clustersOf}
+use Rattle.cluster_table.proofs.Rows.{clusters-length, clusters-at}
 use Rattle.wire.specs.Splice.{splice}
 use Rattle.wire.proofs.Splice.{splice-none, length-splice}
 use Rattle.decoration.specs.declared.OpenRun.{OpenRun}

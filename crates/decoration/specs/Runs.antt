@@ -6,11 +6,11 @@ use mathlib.Core.List.{List, [], _∷_}
 use lib.Dec.{ltb}
 use lib.Ieee.{Float}
 use lib.ListN.{length}
-use Rattle.labels.specs.Single.{_+ᶠ_, +0}
-use Rattle.labels.specs.declared.Run.{Run}
-use Rattle.labels.specs.declared.Span.{Span}
-use Rattle.labels.specs.Merge.{spanContains}
-use Rattle.clusters.specs.Clusters.{Cluster, clustersOf}
+use Rattle.spec.specs.Single.{_+ᶠ_, +0}
+use Rattle.spec.specs.declared.Run.{Run}
+use Rattle.spec.specs.declared.Span.{Span}
+use Rattle.spec.specs.Merge.{spanContains}
+use Rattle.cluster_table.specs.Clusters.{Cluster, clustersOf}
 use Rattle.decoration.specs.declared.OpenRun.{OpenRun}
 
 -- ---- tables

@@ -1,18 +1,18 @@
 // Decoration runs: the stretches of neighbouring clusters of a span that are drawn with one line.
 use answer_format::RUN_BYTES;
 use answer_format::RUN_FIRST_BYTES;
-use clusters::cluster_at;
-use labels::Span;
-use labels::span_contains;
+use cluster_table::cluster_at;
+use spec::Span;
+use spec::span_contains;
 use wire::write::put_f32;
 use wire::write::put_number;
 ghost use mathlib.Core.Path.{_≡_};
 ghost use mathlib.Core.List.{[], flatMap};
 ghost use Prim.Native.Nat.{_+_, _*_, _≤_, _<_};
 ghost use lib.ListN.{length, getD};
-ghost use Rattle.labels.specs.Decoration.{collectDecorationSpans};
-ghost use Rattle.labels.specs.Answer.{runSize, runBytes};
-ghost use Rattle.clusters.specs.Clusters.{clusterOf};
+ghost use Rattle.spec.specs.Decoration.{collectDecorationSpans};
+ghost use Rattle.spec.specs.Answer.{runSize, runBytes};
+ghost use Rattle.cluster_table.specs.Clusters.{clusterOf};
 ghost use Rattle.wire.specs.Splice.{splice};
 ghost use Rattle.decoration.specs.Runs.{Tables, allClusters, runOf, noRun, opened, openedBy, endedSince};
 

@@ -7,11 +7,11 @@ use native.Mathlib.Numerals.{add-one}
 use native.Mathlib.Omega.{arith}
 use lib.ListN.{length, getD, set, take, drop, length-set, List·getD-eq-default}
 use lib.Seq.{drop-drop, take-suc-set, take-all, append-snoc}
-use Rattle.labels.specs.Bytes.{rows, sizes}
-use Rattle.labels.specs.Job.{blankFont, fontAt}
-use Rattle.labels.specs.Decode.{fontBytes, fontOf, spanSize, partsOf}
-use Rattle.labels.specs.Lists.{All}
-use Rattle.laws.proofs.Records.{length-rows, rows-at}
+use Rattle.spec.specs.Bytes.{rows, sizes}
+use Rattle.spec.specs.Job.{blankFont, fontAt}
+use Rattle.spec.specs.Decode.{fontBytes, fontOf, spanSize, partsOf}
+use Rattle.spec.specs.Lists.{All}
+use Rattle.spec_laws.proofs.Records.{length-rows, rows-at}
 use Rattle.wire.proofs.Places.{after-drops}
 use Rattle.job_rows.specs.Rows.{fontsIn, partsIn, spanPlaces}
 

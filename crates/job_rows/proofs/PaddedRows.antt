@@ -3,7 +3,7 @@ use Prim.Native.Nat.{ℕ, _≤_}
 use mathlib.Core.Path.{_≡_}
 use mathlib.Core.List.{List}
 use native.Mathlib.Omega.{arith}
-use Rattle.labels.specs.Decode.{fontBytes, fontOf, glyphBytes, glyphOf, spanOf}
+use Rattle.spec.specs.Decode.{fontBytes, fontOf, glyphBytes, glyphOf, spanOf}
 use Rattle.wire.specs.Padded.{paddedOf}
 use Rattle.wire.proofs.Padded.{be-padded, signed-padded, float-padded}
 

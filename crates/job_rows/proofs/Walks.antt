@@ -8,8 +8,8 @@ use native.Mathlib.Omega.{arith}
 use lib.ListN.{length, drop}
 use lib.Dec.{eqb}
 use borrow.Author.Tests.{ne-eqb, not-true, not-false}
-use Rattle.labels.specs.Lists.{all, isEmpty}
-use Rattle.labels.specs.Bytes.{rows, sizes, each}
+use Rattle.spec.specs.Lists.{all, isEmpty}
+use Rattle.spec.specs.Bytes.{rows, sizes, allRecords}
 use Rattle.wire.proofs.Places.{after-drops}
 
 less-one : (n : ℕ) → suc n - 1 ≡ n
@@ -32,8 +32,8 @@ module _ {A : Type 0} (size : List ℕ → ℕ) (read : List ℕ → A) where
   rows-empty (suc n) bs = sym (ne-eqb (suc n) 0 (λ e. omega arith))
 
   -- a test of all the records that are read
-  pub all-each : (p : A → Bool) (n : ℕ) (bs : List ℕ) → all p (rows size read n bs) ≡ each size (λ b. p (read b)) n bs
-  unfolding all rows each
+  pub all-each : (p : A → Bool) (n : ℕ) (bs : List ℕ) → all p (rows size read n bs) ≡ allRecords size (λ b. p (read b)) n bs
+  unfolding all rows allRecords
   all-each p zero bs = refl
   all-each p (suc n) bs = ap (λ b. p (read bs) && b) (all-each p n (drop (size bs) bs))
 
@@ -55,24 +55,24 @@ module _ (size : List ℕ → ℕ) (s row : List ℕ) (p n : ℕ) (row-is : row 
     tested = rw (t-is, row-is)
 
     pub each-on : not t ≡ false → (k q : ℕ) → k ≡ size row → q ≡ min (p + k) (length s)
-        → each size ok (n - 1) (drop q s) ≡ each size ok n (drop p s)
-    unfolding each
+        → allRecords size ok (n - 1) (drop q s) ≡ allRecords size ok n (drop p s)
+    unfolding allRecords
     each-on passes k q k-is q-is = rw (after-drops p k s q-is, k-is, row-is) (go n h)
       where
-        go : (n : ℕ) → 0 < n → each size ok (n - 1) (drop (size (drop p s)) (drop p s)) ≡ each size ok n (drop p s)
+        go : (n : ℕ) → 0 < n → allRecords size ok (n - 1) (drop (size (drop p s)) (drop p s)) ≡ allRecords size ok n (drop p s)
         go zero h = absurd (not-suc-le-zero h)
         go (suc n) h = rw (less-one n, tested, not-false t passes)
 
-    pub each-stop : not t ≡ true → each size ok n (drop p s) ≡ false
-    unfolding each
+    pub each-stop : not t ≡ true → allRecords size ok n (drop p s) ≡ false
+    unfolding allRecords
     each-stop fails = go n h
       where
-        go : (n : ℕ) → 0 < n → each size ok n (drop p s) ≡ false
+        go : (n : ℕ) → 0 < n → allRecords size ok n (drop p s) ≡ false
         go zero h = absurd (not-suc-le-zero h)
         go (suc n) h = rw (tested, not-true t fails)
 
-pub each-done : (size : List ℕ → ℕ) (ok : List ℕ → Bool) (n : ℕ) (bs : List ℕ) → n ≤ 0 → each size ok n bs ≡ true
-unfolding each
+pub each-done : (size : List ℕ → ℕ) (ok : List ℕ → Bool) (n : ℕ) (bs : List ℕ) → n ≤ 0 → allRecords size ok n bs ≡ true
+unfolding allRecords
 each-done size ok zero bs h = refl
 each-done size ok (suc n) bs h = absurd (not-suc-le-zero h)
 

@@ -2,8 +2,8 @@
 use mathlib.Core.List.{List}
 use Prim.Native.Nat.{ℕ}
 use lib.ListN.{drop}
-use Rattle.labels.specs.Bytes.{be, float}
-use Rattle.labels.specs.Decode.{textSize, spanCount}
+use Rattle.spec.specs.Bytes.{be, float}
+use Rattle.spec.specs.Decode.{textSize, spanCount}
 use Rattle.job_rows.specs.declared.rows.ChunkHead.{ChunkHead}
 
 unfoldable pub headOf : List ℕ → ChunkHead

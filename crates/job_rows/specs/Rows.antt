@@ -2,14 +2,14 @@
 use Prim.Native.Nat.{ℕ, zero, suc, _+_, min}
 use mathlib.Core.List.{List, [], _∷_, map}
 use lib.ListN.{length, take, drop}
-use Rattle.labels.specs.Bytes.{be, rows}
-use Rattle.labels.specs.declared.Font.{Font}
-use Rattle.labels.specs.declared.Glyph.{Glyph}
-use Rattle.labels.specs.declared.Job.{Job}
-use Rattle.labels.specs.declared.Span.{Span}
-use Rattle.labels.specs.Job as definitions
-use Rattle.labels.specs.Job.{SpanParts}
-use Rattle.labels.specs.Decode.{fontBytes, fontOf, glyphOf, spanSize, spanOf, partsOf, listOf, chunkSize, chunkOf}
+use Rattle.spec.specs.Bytes.{be, rows}
+use Rattle.spec.specs.declared.Font.{Font}
+use Rattle.spec.specs.declared.Glyph.{Glyph}
+use Rattle.spec.specs.declared.Job.{Job}
+use Rattle.spec.specs.declared.Span.{Span}
+use Rattle.spec.specs.Job as definitions
+use Rattle.spec.specs.Job.{SpanParts}
+use Rattle.spec.specs.Decode.{fontBytes, fontOf, glyphOf, spanSize, spanOf, partsOf, listOf, chunkSize, chunkOf}
 
 -- the n font rows, which begin behind length, version, writing mode and font count
 unfoldable pub fontsIn : List ℕ → ℕ → List Font

@@ -8,17 +8,17 @@ use crate::sizes::FONT_BYTES;
 use crate::sizes::LIST_COUNT_BYTES;
 use crate::sizes::SPAN_SIZE_AT;
 use crate::sizes::span_size;
-use labels::Font;
-use labels::Span;
-use wire::place::after;
-use wire::place::from;
+use spec::Font;
+use spec::Span;
 use wire::read::f32_at;
 use wire::read::u16_at;
+use wire::slice::offset_after;
+use wire::slice::tail;
 ghost use mathlib.Core.Path.{_≡_};
 ghost use lib.ListN.{length, getD};
-ghost use Rattle.labels.specs.Single.{+0};
-ghost use Rattle.labels.specs.Job.{blankFont, fontAt, blankSpan, spanAt};
-ghost use Rattle.labels.specs.Decode.{listOf};
+ghost use Rattle.spec.specs.Single.{+0};
+ghost use Rattle.spec.specs.Job.{blankFont, fontAt, blankSpan, spanAt};
+ghost use Rattle.spec.specs.Decode.{listOf};
 ghost use Rattle.job_rows.specs.Rows.{fontsIn, spansIn, spanPlaces};
 
 // Where the first font row stands: behind length, version, writing mode and font count.
@@ -98,7 +98,7 @@ pub fn size_in(s: &[u8], places: &[usize], k: usize) -> f32
     if places.len() <= k {
         return 0.0;
     }
-    span_float(from(s, places[k]), SPAN_SIZE_AT)
+    span_float(tail(s, places[k]), SPAN_SIZE_AT)
 }
 
 // The float of place `i` in a list, given the bytes from its count on.
@@ -120,7 +120,7 @@ pub fn span_places(s: &[u8], at: usize, places: &mut [usize])
     let mut i: usize = 0;
     while i < places.len() {
         places[i] = p;
-        p = after(s, p, span_size(from(s, p)));
+        p = offset_after(s, p, span_size(tail(s, p)));
         i += 1;
     }
 }

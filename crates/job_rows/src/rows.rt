@@ -16,10 +16,9 @@ use crate::sizes::SPAN_HEAD_BYTES;
 use crate::sizes::SPAN_LETTER_AT;
 use crate::sizes::SPAN_SIZE_AT;
 use crate::sizes::SPAN_WORD_AT;
-use labels::Font;
-use labels::Glyph;
-use labels::Span;
-use wire::place::from;
+use spec::Font;
+use spec::Glyph;
+use spec::Span;
 use wire::read::f32_at;
 use wire::read::f32_within;
 use wire::read::i16_within;
@@ -30,11 +29,12 @@ use wire::read::u8_within;
 use wire::read::u16_at;
 use wire::read::u16_within;
 use wire::read::u32_within;
+use wire::slice::tail;
 ghost use mathlib.Core.Path.{_≡_};
 ghost use Prim.Native.Nat.{_+_, _≤_};
 ghost use lib.ListN.{length, drop};
-ghost use Rattle.labels.specs.Bytes.{float};
-ghost use Rattle.labels.specs.Decode.{fontBytes, fontOf, glyphBytes, glyphOf, spanOf, shiftOf};
+ghost use Rattle.spec.specs.Bytes.{float};
+ghost use Rattle.spec.specs.Decode.{fontBytes, fontOf, glyphBytes, glyphOf, spanOf, shiftOf};
 ghost use Rattle.wire.specs.Padded.{paddedOf};
 ghost use Rattle.job_rows.specs.Head.{headOf};
 
@@ -69,7 +69,7 @@ pub fn font_of(row: &[u8]) -> Font
 pub fn font_at(s: &[u8], at: usize) -> Font
     ensures { λ r. ⌜ r ≡ fontOf (drop at (now (s .entry))) ⌝ }
 {
-    let row = from(s, at);
+    let row = tail(s, at);
     if FONT_BYTES <= row.len() {
         return font_of(row);
     }
@@ -97,7 +97,7 @@ pub fn glyph_of(row: &[u8]) -> Glyph
 pub fn glyph_at(s: &[u8], at: usize) -> Glyph
     ensures { λ r. ⌜ r ≡ glyphOf (drop at (now (s .entry))) ⌝ }
 {
-    let row = from(s, at);
+    let row = tail(s, at);
     if GLYPH_BYTES <= row.len() {
         return glyph_of(row);
     }
@@ -109,7 +109,7 @@ pub fn glyph_at(s: &[u8], at: usize) -> Glyph
 pub fn glyph_index_at(s: &[u8], at: usize) -> u16
     ensures { λ r. ⌜ r ≡ glyphOf (drop at (now (s .entry))) .index ⌝ }
 {
-    let row = from(s, at);
+    let row = tail(s, at);
     if row.len() < GLYPH_BYTES {
         return u16_at(row, GLYPH_INDEX_AT);
     }
@@ -140,7 +140,7 @@ fn span_of(row: &[u8]) -> Span
 pub fn span_at(s: &[u8], at: usize) -> Span
     ensures { λ r. ⌜ r ≡ spanOf (drop at (now (s .entry))) ⌝ }
 {
-    let row = from(s, at);
+    let row = tail(s, at);
     if SPAN_HEAD_BYTES <= row.len() {
         return span_of(row);
     }
@@ -175,7 +175,7 @@ pub struct ChunkHead {
 pub fn head_at(s: &[u8], at: usize) -> ChunkHead
     ensures { λ r. ⌜ r ≡ headOf (drop at (now (s .entry))) ⌝ }
 {
-    let row = from(s, at);
+    let row = tail(s, at);
     ChunkHead {
         flags: u8_at(row, 0),
         x: f32_at(row, CHUNK_X_AT),
@@ -191,7 +191,7 @@ pub fn head_at(s: &[u8], at: usize) -> ChunkHead
 pub fn anchor_at(s: &[u8], at: usize) -> u8
     ensures { λ r. ⌜ r ≡ headOf (drop at (now (s .entry))) .anchor ⌝ }
 {
-    u8_at(from(s, at), ANCHOR_AT)
+    u8_at(tail(s, at), ANCHOR_AT)
 }
 
 // A shift row's kind, and its float.
@@ -204,6 +204,6 @@ pub fn shift_kind_at(s: &[u8], at: usize) -> u8
 pub fn shift_number_at(s: &[u8], at: usize) -> f32
     ensures { λ r. ⌜ r ≡ shiftOf (drop at (now (s .entry))) .number ⌝ }
 {
-    let row = from(s, at);
+    let row = tail(s, at);
     f32_at(row, 1)
 }

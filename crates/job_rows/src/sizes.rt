@@ -1,13 +1,13 @@
 // How many rows a span, a chunk and a job have, and how many bytes they take. Each function is given the bytes from its record on.
-use wire::place::after;
-use wire::place::from;
-use wire::place::part;
 use wire::read::u8_at;
 use wire::read::u16_at;
+use wire::slice::offset_after;
+use wire::slice::tail;
+use wire::slice::window;
 ghost use mathlib.Core.Path.{_≡_};
 ghost use Prim.Native.Nat.{_<_, _≤_, _*_};
-ghost use Rattle.labels.specs.Bytes.{sizes};
-ghost use Rattle.labels.specs.Decode.{shiftCount, glyphsAt, glyphCount, spanSize, textSize, spansAt, spanCount, spanBytes, chunkSize, chunkOf, listSize, fontCount};
+ghost use Rattle.spec.specs.Bytes.{sizes};
+ghost use Rattle.spec.specs.Decode.{shiftCount, glyphCountAt, glyphCount, spanSize, textSize, spanCountAt, spanCount, spanBytes, chunkSize, chunkOf, listSize, fontCount};
 
 // ---- sizes and places of a record's parts, in the definitions' words where they have a name for them
 
@@ -86,7 +86,7 @@ pub fn shift_count(span: &[u8]) -> usize
 
 // Where the glyph count stands.
 pub fn glyphs_at(span: &[u8]) -> usize
-    ensures { λ r. ⌜ (r ≡ glyphsAt (now (span .entry))) × (r < 1_303) ⌝ }
+    ensures { λ r. ⌜ (r ≡ glyphCountAt (now (span .entry))) × (r < 1_303) ⌝ }
 {
     SHIFTS_AT + shift_count(span) * SHIFT_BYTES
 }
@@ -112,10 +112,10 @@ pub fn spans_size(spans: &[u8], n: usize) -> usize
     let mut p: usize = 0;
     let mut left = n;
     while 0 < left {
-        let span = from(spans, p);
+        let span = tail(spans, p);
         let k = span_size(span);
         size += k;
-        p = after(spans, p, k);
+        p = offset_after(spans, p, k);
         left -= 1;
     }
     size
@@ -133,12 +133,12 @@ pub fn text_size(chunk: &[u8]) -> usize
 pub fn text_of(chunk: &[u8]) -> &[u8]
     ensures { λ r. ⌜ now r ≡ chunkOf (now (chunk .entry)) .text ⌝ }
 {
-    part(chunk, TEXT_BYTES_AT, text_size(chunk))
+    window(chunk, TEXT_BYTES_AT, text_size(chunk))
 }
 
 // Where the span count stands.
 pub fn spans_at(chunk: &[u8]) -> usize
-    ensures { λ r. ⌜ (r ≡ spansAt (now (chunk .entry))) × (r < 65_549) ⌝ }
+    ensures { λ r. ⌜ (r ≡ spanCountAt (now (chunk .entry))) × (r < 65_549) ⌝ }
 {
     TEXT_BYTES_AT + text_size(chunk)
 }
@@ -153,7 +153,7 @@ pub fn span_count(chunk: &[u8]) -> usize
 pub fn span_bytes(chunk: &[u8]) -> &[u8]
     ensures { λ r. ⌜ now r ≡ spanBytes (now (chunk .entry)) ⌝ }
 {
-    from(chunk, spans_at(chunk) + SPAN_COUNT_BYTES)
+    tail(chunk, spans_at(chunk) + SPAN_COUNT_BYTES)
 }
 
 pub fn chunk_size(chunk: &[u8]) -> usize
@@ -171,10 +171,10 @@ pub fn chunks_size(chunks: &[u8], n: usize) -> usize
     let mut p: usize = 0;
     let mut left = n;
     while 0 < left {
-        let chunk = from(chunks, p);
+        let chunk = tail(chunks, p);
         let k = chunk_size(chunk);
         size += k;
-        p = after(chunks, p, k);
+        p = offset_after(chunks, p, k);
         left -= 1;
     }
     size

@@ -6,23 +6,23 @@ use native.Mathlib.Omega.{arith}
 use borrow.Author.Tests.{le-leb, lt-leb}
 use lib.ListN.{length, take, drop, length-append, length-map}
 use lib.Seq.{drop-at, length-take-le}
-use Rattle.laws.proofs.Numbers.{length-bytes}
-use Rattle.laws.proofs.IfGiven.{of-given}
-use Rattle.labels.specs.Outcome.{Outcome, refused, given, andThen, IfGiven}
-use Rattle.labels.specs.Bytes.{bytes}
-use Rattle.labels.specs.declared.Job.{Job}
-use Rattle.labels.specs.Job as definitions
-use Rattle.labels.specs.Job.{Chunk}
-use Rattle.labels.specs.Answer.{ChunkRow, chunkRowBytes, answerVersion, answerCountBytes, answerHeadSize, answerBody, answerBytes}
-use Rattle.labels.specs.Merge.{mergeGlyphs}
-use Rattle.labels.specs.declared.Glyph.{Glyph}
-use Rattle.labels.specs.declared.Cluster.{Cluster}
-use Rattle.labels.specs.Check.{checked}
-use Rattle.labels.specs.Layout.{LaidChunk, Progress, beginning, rowsOf, adjustedClusters, placeChunk, layoutChunk, layoutJob, layoutRows, fitting, layoutOf, numberOf, lengthOf, bufferAfter}
+use Rattle.spec_laws.proofs.Numbers.{length-bytes}
+use Rattle.spec_laws.proofs.IfGiven.{of-given}
+use Rattle.spec.specs.Outcome.{Outcome, refused, given, andThen, IfGiven}
+use Rattle.spec.specs.Bytes.{bytes}
+use Rattle.spec.specs.declared.Job.{Job}
+use Rattle.spec.specs.Job as definitions
+use Rattle.spec.specs.Job.{Chunk}
+use Rattle.spec.specs.Answer.{ChunkRow, chunkRowBytes, answerVersion, answerCountBytes, answerHeadSize, answerBody, answerBytes}
+use Rattle.spec.specs.Merge.{mergeGlyphs}
+use Rattle.spec.specs.declared.Glyph.{Glyph}
+use Rattle.spec.specs.declared.Cluster.{Cluster}
+use Rattle.spec.specs.Check.{checked}
+use Rattle.spec.specs.Layout.{LaidChunk, Progress, beginning, rowsOf, adjustedClusters, placeChunk, layoutChunk, layoutJob, layoutRows, fitting, layoutOf, numberOf, lengthOf, bufferAfter}
 use Rattle.wire.specs.Splice.{splice}
 use Rattle.job_rows.specs.Rows.{jobAt}
-use Rattle.chunk.specs.Steps.{laidBytes, putFrom}
-use Rattle.layout.specs.Steps.{jobLaid, answered}
+use Rattle.chunk.specs.Steps.{writtenBytes, bufferAfterChunks}
+use Rattle.layout.specs.Steps.{jobOutcome, answered}
 use Rattle.layout.proofs.Copied.{answerLength, refused-unput, longer-unput, rows-put}
 
 -- ---- a row for each chunk
@@ -55,12 +55,12 @@ module _ (j : definitions.Job) where
       let e : k + 1 + length cs ≡ k + length (c ∷ cs) = omega arith in
       subst (λ (n : ℕ). IfGiven (Many n) (foldl (layoutChunk j) (layoutChunk j o c) cs)) e (chunks-many (k + 1) (layoutChunk j o c) cs (chunk-many k o c h))
 
-pub rows-many : (s : List ℕ) (job : Job) (st : Progress) → jobLaid s job ≡ given st → length (rowsOf (st .chunks)) ≡ length (jobAt s job .chunks)
-unfolding jobLaid
+pub rows-many : (s : List ℕ) (job : Job) (st : Progress) → jobOutcome s job ≡ given st → length (rowsOf (st .chunks)) ≡ length (jobAt s job .chunks)
+unfolding jobOutcome
 rows-many s job st e =
     let j = jobAt s job in
     length-map (st .chunks) (λ (c : LaidChunk). c .row)
-    ∙ of-given (Many j (0 + length (j .chunks))) (jobLaid s job) st (chunks-many j 0 (given beginning) (j .chunks) refl) e ∙ omega arith
+    ∙ of-given (Many j (0 + length (j .chunks))) (jobOutcome s job) st (chunks-many j 0 (given beginning) (j .chunks) refl) e ∙ omega arith
 
 -- ---- the bytes of an answer
 
@@ -110,7 +110,7 @@ module _ (o : Outcome Progress) (old : List ℕ) where
   abbrev room : ℕ
   room = length old
 
-  pub answers-refused : (k : ℕ) {new : List ℕ} → o ≡ refused k → new ≡ putFrom old answerHeadSize o → Answers (answered o room) old k 0 new
+  pub answers-refused : (k : ℕ) {new : List ℕ} → o ≡ refused k → new ≡ bufferAfterChunks old answerHeadSize o → Answers (answered o room) old k 0 new
   unfolding answered andThen
   answers-refused k e b = rw e (record { number = refl; written = refl; buffer = b ∙ refused-unput o old k e })
 
@@ -118,15 +118,15 @@ module _ (o : Outcome Progress) (old : List ℕ) where
     abbrev rows : List ChunkRow
     rows = rowsOf (st .chunks)
 
-    pub answers-too-long : {new : List ℕ} → room < answerLength st → new ≡ putFrom old answerHeadSize o → Answers (answered o room) old 10 0 new
-    unfolding answered andThen fitting laidBytes
+    pub answers-too-long : {new : List ℕ} → room < answerLength st → new ≡ bufferAfterChunks old answerHeadSize o → Answers (answered o room) old 10 0 new
+    unfolding answered andThen fitting writtenBytes
     answers-too-long h b =
         rw (e, answer-long rows, lt-leb (answerLength st) room h) (record { number = refl; written = refl; buffer = b ∙ longer-unput o st e old h })
 
     -- the rows, and then the head
-    pub answers-written : (size count : ℕ) {put new : List ℕ} → answerLength st ≤ room → size ≡ answerLength st → count ≡ length rows → put ≡ putFrom old answerHeadSize o
+    pub answers-written : (size count : ℕ) {put new : List ℕ} → answerLength st ≤ room → size ≡ answerLength st → count ≡ length rows → put ≡ bufferAfterChunks old answerHeadSize o
         → new ≡ splice put 0 (headOf size count) → Answers (answered o room) old 0 size new
-    unfolding answered andThen fitting laidBytes
+    unfolding answered andThen fitting writtenBytes
     answers-written size count h n c b₁ b₂ =
         let six : length (headOf size count) ≡ answerHeadSize = simp (length-append, length-bytes) in
         let is : headOf size count ++ flatMap chunkRowBytes rows ≡ answerBytes rows = answer-is rows size count n c in
@@ -138,8 +138,8 @@ module _ (o : Outcome Progress) (old : List ℕ) where
 -- ---- the call
 
 module _ (s : List ℕ) (room : ℕ) where
-  pub call-given : (job : Job) → checked s ≡ given (jobAt s job) → layoutOf s room ≡ answered (jobLaid s job) room
-  unfolding layoutOf layoutRows layoutJob andThen answered jobLaid
+  pub call-given : (job : Job) → checked s ≡ given (jobAt s job) → layoutOf s room ≡ answered (jobOutcome s job) room
+  unfolding layoutOf layoutRows layoutJob andThen answered jobOutcome
   call-given job e = rw e (go (foldl (layoutChunk (jobAt s job)) (given beginning) (jobAt s job .chunks)))
     where
       go : (o : Outcome Progress) → andThen (andThen (andThen o (λ (st : Progress). given (st .chunks))) (λ (cs : List LaidChunk). given (rowsOf cs))) (fitting room)

@@ -5,18 +5,18 @@ use mathlib.Core.List.{List, [], _∷_, _++_, flatMap, foldl, append-assoc, appe
 use native.Mathlib.Omega.{arith}
 use borrow.Author.Tests.{le-leb}
 use lib.ListN.{length, length-append}
-use Rattle.laws.proofs.All.{fold-keeps}
-use Rattle.labels.specs.Outcome.{Outcome, refused, given, andThen}
-use Rattle.labels.specs.declared.Glyph.{Glyph}
-use Rattle.labels.specs.declared.Cluster.{Cluster}
-use Rattle.labels.specs.Job.{Job, Chunk}
-use Rattle.labels.specs.Merge.{mergeGlyphs}
-use Rattle.labels.specs.Answer.{chunkRowBytes}
-use Rattle.labels.specs.Layout.{LaidChunk, Progress, rowsOf, adjustedClusters, placeChunk, layoutChunk}
+use Rattle.spec_laws.proofs.All.{fold-keeps}
+use Rattle.spec.specs.Outcome.{Outcome, refused, given, andThen}
+use Rattle.spec.specs.declared.Glyph.{Glyph}
+use Rattle.spec.specs.declared.Cluster.{Cluster}
+use Rattle.spec.specs.Job.{Job, Chunk}
+use Rattle.spec.specs.Merge.{mergeGlyphs}
+use Rattle.spec.specs.Answer.{chunkRowBytes}
+use Rattle.spec.specs.Layout.{LaidChunk, Progress, rowsOf, adjustedClusters, placeChunk, layoutChunk}
 use Rattle.wire.specs.Splice.{splice}
 use Rattle.wire.proofs.Splice.{length-splice, splice-next}
-use Rattle.answer.specs.Chunks.{putWithin}
-use Rattle.chunk.specs.Steps.{progressOf, laidBytes, progressFrom, laidFrom, putFrom}
+use Rattle.answer_rows.specs.Chunks.{spliceIfFits}
+use Rattle.chunk.specs.Steps.{progressOf, writtenBytes, progressAfter, resultOf, bufferAfterChunks}
 
 abbrev pub prefixed : List LaidChunk → Progress → Progress
 prefixed ls st = record { pen = st .pen; offset = st .offset; extent = st .extent; chunks = ls ++ st .chunks }
@@ -62,25 +62,25 @@ rows-append (l ∷ ls) ms =
     ap (λ (bs : List ℕ). chunkRowBytes (l .row) ++ bs) (rows-append ls ms) ∙ sym (append-assoc (chunkRowBytes (l .row)) (flatMap chunkRowBytes (rowsOf ls)) (flatMap chunkRowBytes (rowsOf ms)))
 
 module _ (st : Progress) where
-  bytes-behind : (after : Progress) → laidBytes (prefixed (st .chunks) after) ≡ laidBytes st ++ laidBytes after
-  unfolding laidBytes
+  bytes-behind : (after : Progress) → writtenBytes (prefixed (st .chunks) after) ≡ writtenBytes st ++ writtenBytes after
+  unfolding writtenBytes
   bytes-behind after = rows-append (st .chunks) (after .chunks)
 
-  length-behind : (n : ℕ) (after : Progress) → n + length (laidBytes (prefixed (st .chunks) after)) ≡ n + length (laidBytes st) + length (laidBytes after)
-  length-behind n after = ap (λ (bs : List ℕ). n + length bs) (bytes-behind after) ∙ ap (λ (k : ℕ). n + k) (length-append (laidBytes st) (laidBytes after)) ∙ omega arith
+  length-behind : (n : ℕ) (after : Progress) → n + length (writtenBytes (prefixed (st .chunks) after)) ≡ n + length (writtenBytes st) + length (writtenBytes after)
+  length-behind n after = ap (λ (bs : List ℕ). n + length bs) (bytes-behind after) ∙ ap (λ (k : ℕ). n + k) (length-append (writtenBytes st) (writtenBytes after)) ∙ omega arith
 
-  measured : (n : ℕ) (o : Outcome Progress) → laidFrom n (onGiven (prefixed (st .chunks)) o) ≡ laidFrom (n + length (laidBytes st)) o
-  unfolding laidFrom progressFrom
+  measured : (n : ℕ) (o : Outcome Progress) → resultOf n (onGiven (prefixed (st .chunks)) o) ≡ resultOf (n + length (writtenBytes st)) o
+  unfolding resultOf progressAfter
   measured n (refused k) = refl
   measured n (given after) = rw (length-behind n after) refl
 
 -- the whole ends by `room`, if it begins behind n bytes
 abbrev pub FitsFrom : ℕ → ℕ → Outcome Progress → Type 0
 FitsFrom room n (refused k) = ⊥
-FitsFrom room n (given st) = n + length (laidBytes st) ≤ room
+FitsFrom room n (given st) = n + length (writtenBytes st) ≤ room
 
-pub put-fits : (out : List ℕ) (n : ℕ) (bs : List ℕ) → n + length bs ≤ length out → putWithin out n bs ≡ splice out n bs
-unfolding putWithin
+pub put-fits : (out : List ℕ) (n : ℕ) (bs : List ℕ) → n + length bs ≤ length out → spliceIfFits out n bs ≡ splice out n bs
+unfolding spliceIfFits
 put-fits out n bs h = rw (le-leb (n + length bs) (length out) h) refl
 
 -- ---- a chunk was laid out, and n bytes came before it: the code goes on from its own state
@@ -90,47 +90,47 @@ module _ (j : Job) (cs : List Chunk) (n : ℕ) (st : Progress) where
   whole = foldl (layoutChunk j) (given st) cs
 
   abbrev rest : Outcome Progress
-  rest = foldl (layoutChunk j) (given (progressOf (progressFrom n st))) cs
+  rest = foldl (layoutChunk j) (given (progressOf (progressAfter n st))) cs
 
   whole-is : whole ≡ onGiven (prefixed (st .chunks)) rest
-  unfolding progressFrom
+  unfolding progressAfter
   whole-is =
       ap (λ (ls : List LaidChunk). foldl (layoutChunk j) (given (record { pen = st .pen; offset = st .offset; extent = st .extent; chunks = ls })) cs) (sym (append-nil (st .chunks)))
-      ∙ all-laid j (st .chunks) cs (given (progressOf (progressFrom n st)))
+      ∙ all-laid j (st .chunks) cs (given (progressOf (progressAfter n st)))
 
-  pub measured-on : laidFrom (n + length (laidBytes st)) rest ≡ laidFrom n whole
-  measured-on = sym (measured st n rest) ∙ ap (laidFrom n) (sym whole-is)
+  pub measured-on : resultOf (n + length (writtenBytes st)) rest ≡ resultOf n whole
+  measured-on = sym (measured st n rest) ∙ ap (resultOf n) (sym whole-is)
 
   module _ (old : List ℕ) (fits : FitsFrom (length old) n whole) where
-    behind-fits : (o : Outcome Progress) → FitsFrom (length old) n (onGiven (prefixed (st .chunks)) o) → FitsFrom (length old) (n + length (laidBytes st)) o
+    behind-fits : (o : Outcome Progress) → FitsFrom (length old) n (onGiven (prefixed (st .chunks)) o) → FitsFrom (length old) (n + length (writtenBytes st)) o
     behind-fits (refused k) h = h
     behind-fits (given after) h = let same = length-behind st n after in omega arith
 
-    pub fits-on : FitsFrom (length old) (n + length (laidBytes st)) rest
+    pub fits-on : FitsFrom (length old) (n + length (writtenBytes st)) rest
     fits-on = behind-fits rest (subst (FitsFrom (length old) n) whole-is fits)
 
-    first-fits : (o : Outcome Progress) → FitsFrom (length old) (n + length (laidBytes st)) o → n + length (laidBytes st) ≤ length old
+    first-fits : (o : Outcome Progress) → FitsFrom (length old) (n + length (writtenBytes st)) o → n + length (writtenBytes st) ≤ length old
     first-fits (refused k) h = absurd h
     first-fits (given after) h = omega arith
 
-    put-behind : (o : Outcome Progress) → FitsFrom (length old) (n + length (laidBytes st)) o
-        → putFrom (splice old n (laidBytes st)) (n + length (laidBytes st)) o ≡ putFrom old n (onGiven (prefixed (st .chunks)) o)
-    unfolding putFrom
+    put-behind : (o : Outcome Progress) → FitsFrom (length old) (n + length (writtenBytes st)) o
+        → bufferAfterChunks (splice old n (writtenBytes st)) (n + length (writtenBytes st)) o ≡ bufferAfterChunks old n (onGiven (prefixed (st .chunks)) o)
+    unfolding bufferAfterChunks
     put-behind (refused k) h = absurd h
     put-behind (given after) h =
-        let kept : length (splice old n (laidBytes st)) ≡ length old = length-splice old n (laidBytes st) (omega arith) in
-        put-fits (splice old n (laidBytes st)) (n + length (laidBytes st)) (laidBytes after) (omega (arith, kept, h))
-        ∙ splice-next old n (laidBytes st) (n + length (laidBytes st)) (laidBytes after) refl (omega arith)
+        let kept : length (splice old n (writtenBytes st)) ≡ length old = length-splice old n (writtenBytes st) (omega arith) in
+        put-fits (splice old n (writtenBytes st)) (n + length (writtenBytes st)) (writtenBytes after) (omega (arith, kept, h))
+        ∙ splice-next old n (writtenBytes st) (n + length (writtenBytes st)) (writtenBytes after) refl (omega arith)
         ∙ ap (splice old n) (sym (bytes-behind st after))
-        ∙ sym (put-fits old n (laidBytes (prefixed (st .chunks) after)) (let same = length-behind st n after in omega arith))
+        ∙ sym (put-fits old n (writtenBytes (prefixed (st .chunks) after)) (let same = length-behind st n after in omega arith))
 
-    module _ (new : List ℕ) (put : new ≡ putFrom old n (given st)) where
-      put-is : new ≡ splice old n (laidBytes st)
-      unfolding putFrom
-      put-is = put ∙ put-fits old n (laidBytes st) (first-fits rest fits-on)
+    module _ (new : List ℕ) (put : new ≡ bufferAfterChunks old n (given st)) where
+      put-is : new ≡ splice old n (writtenBytes st)
+      unfolding bufferAfterChunks
+      put-is = put ∙ put-fits old n (writtenBytes st) (first-fits rest fits-on)
 
-      pub put-on : putFrom new (n + length (laidBytes st)) rest ≡ putFrom old n whole
+      pub put-on : bufferAfterChunks new (n + length (writtenBytes st)) rest ≡ bufferAfterChunks old n whole
       put-on =
-          ap (λ (l : List ℕ). putFrom l (n + length (laidBytes st)) rest) put-is
+          ap (λ (l : List ℕ). bufferAfterChunks l (n + length (writtenBytes st)) rest) put-is
           ∙ put-behind rest fits-on
-          ∙ ap (putFrom old n) (sym whole-is)
+          ∙ ap (bufferAfterChunks old n) (sym whole-is)

@@ -4,18 +4,18 @@ use mathlib.Core.Path.{_≡_, refl, sym, ap, subst, _∙_}
 use mathlib.Core.List.{List, [], _∷_}
 use native.Mathlib.Omega.{arith}
 use lib.ListN.{length, getD}
-use Rattle.labels.specs.Lists.{All}
-use Rattle.laws.proofs.Counted.{IsByte}
-use Rattle.laws.proofs.NeverTooShort.{never-too-short, always-enough, length-bound, length-small}
-use Rattle.exact.proofs.Answer.{near-answer}
-use Rattle.labels.specs.Outcome.{Outcome, refused, given}
-use Rattle.labels.specs.declared.Job.{Job}
-use Rattle.labels.specs.Check.{checked}
-use Rattle.labels.specs.Layout.{layoutOf, numberOf, lengthOf, bufferAfter}
-use Rattle.labels.specs.Exact.{NearAnswer}
+use Rattle.spec.specs.Lists.{All}
+use Rattle.spec_laws.proofs.Counted.{IsByte}
+use Rattle.spec_laws.proofs.NeverTooShort.{never-too-short, always-enough, length-bound, length-small}
+use Rattle.error_bound.proofs.Answer.{near-answer}
+use Rattle.spec.specs.Outcome.{Outcome, refused, given}
+use Rattle.spec.specs.declared.Job.{Job}
+use Rattle.spec.specs.Check.{checked}
+use Rattle.spec.specs.Layout.{layoutOf, numberOf, lengthOf, bufferAfter}
+use Rattle.spec.specs.Exact.{NearAnswer}
 use Rattle.job_rows.specs.Rows.{jobAt}
-use Rattle.layout.specs.Steps.{jobLaid, answered}
-use Rattle.layout.specs.Called.{LaidOut}
+use Rattle.layout.specs.Steps.{jobOutcome, answered}
+use Rattle.layout.specs.Called.{LayoutPromise}
 use Rattle.layout.proofs.Answering.{Answers, call-given, call-refused}
 
 -- bytes, each known by its place
@@ -24,9 +24,9 @@ bytes-of [] h = All.none
 bytes-of (x ∷ xs) h = All.more (h 0) (bytes-of xs (λ i. h (suc i)))
 
 module _ (s old : List ℕ) where
-  pub promised-given : (job : Job) {returned size : ℕ} {new : List ℕ} → All IsByte s → checked s ≡ given (jobAt s job) → Answers (answered (jobLaid s job) (length old)) old returned size new → LaidOut s old returned size new
+  pub promised-given : (job : Job) {returned size : ℕ} {new : List ℕ} → All IsByte s → checked s ≡ given (jobAt s job) → Answers (answered (jobOutcome s job) (length old)) old returned size new → LayoutPromise s old returned size new
   promised-given job {returned} {size} {new} bs e a =
-      let is : answered (jobLaid s job) (length old) ≡ layoutOf s (length old) = sym (call-given s (length old) job e) in
+      let is : answered (jobOutcome s job) (length old) ≡ layoutOf s (length old) = sym (call-given s (length old) job e) in
       let number : returned ≡ numberOf (layoutOf s (length old)) = a .number ∙ ap numberOf is in
       let written : size ≡ lengthOf (layoutOf s (length old)) = a .written ∙ ap lengthOf is in
       let buffer : new ≡ bufferAfter (layoutOf s (length old)) old = a .buffer ∙ ap (λ (o : Outcome (List ℕ)). bufferAfter o old) is in
@@ -41,7 +41,7 @@ module _ (s old : List ℕ) where
         near = λ answer f. subst (NearAnswer (checked s)) (sym buffer) (near-answer s (length old) answer old bs f);
       }
 
-  pub promised-refused : (k : ℕ) → checked s ≡ refused k → LaidOut s old k 0 old
+  pub promised-refused : (k : ℕ) → checked s ≡ refused k → LayoutPromise s old k 0 old
   promised-refused k e =
       let is = call-refused s (length old) k e in
       record {

@@ -6,24 +6,24 @@ use mathlib.Core.List.{List, [], _∷_, foldl}
 use native.Mathlib.Omega.{arith}
 use lib.ListN.{length, drop}
 use lib.Dec.{T}
-use Rattle.laws.proofs.All.{and-left, and-right}
-use Rattle.laws.proofs.AnswerBound.{answer-bound}
-use Rattle.labels.specs.Bytes.{rows, each}
-use Rattle.labels.specs.Lists.{all}
-use Rattle.labels.specs.Outcome.{Outcome, given, andThen}
-use Rattle.labels.specs.declared.Job.{Job}
-use Rattle.labels.specs.Job as definitions
-use Rattle.labels.specs.Decode.{chunkSize, chunkFits, chunkOf}
-use Rattle.labels.specs.Layout.{Progress, beginning, rowsOf, layoutChunk, layoutJob, layoutRows}
+use Rattle.spec_laws.proofs.All.{and-left, and-right}
+use Rattle.spec_laws.proofs.AnswerBound.{answer-bound}
+use Rattle.spec.specs.Bytes.{rows, allRecords}
+use Rattle.spec.specs.Lists.{all}
+use Rattle.spec.specs.Outcome.{Outcome, given, andThen}
+use Rattle.spec.specs.declared.Job.{Job}
+use Rattle.spec.specs.Job as definitions
+use Rattle.spec.specs.Decode.{chunkSize, chunkFits, chunkOf}
+use Rattle.spec.specs.Layout.{Progress, beginning, rowsOf, layoutChunk, layoutJob, layoutRows}
 use Rattle.wire.proofs.Places.{after-drops}
 use Rattle.job_rows.specs.Rows.{jobAt}
 use Rattle.job_rows.proofs.Walks.{rows-turn, rows-done}
 use Rattle.chunk.specs.Sure.{sure}
-use Rattle.chunk.specs.Steps.{laidBytes}
+use Rattle.chunk.specs.Steps.{writtenBytes}
 use Rattle.chunk.specs.Checked.{ShapedChunk}
 use Rattle.chunk.proofs.NotRefused.{sure-laid}
 use Rattle.layout.specs.Checked.{CheckedJob}
-use Rattle.layout.specs.Steps.{jobLaid, fitsIn}
+use Rattle.layout.specs.Steps.{jobOutcome, fitsIn}
 use Rattle.layout.proofs.ChunksLeft.{chunksLeft, each-turn}
 use Rattle.layout.proofs.Answering.{answer-long}
 use Rattle.layout.proofs.Copied.{answerLength, fits-of}
@@ -34,7 +34,7 @@ use Rattle.layout.proofs.Copied.{answerLength, fits-of}
 -- stand from `first` on
 pub record Asking (s : List ℕ) (first many at left : ℕ) : Type 0 where
   pub begins : at ≤ length s
-  pub fits : T (each chunkSize chunkFits left (drop at s))
+  pub fits : T (allRecords chunkSize chunkFits left (drop at s))
   pub same : all sure (chunksLeft s at left) ≡ all sure (chunksLeft s first many)
 
 module _ (s : List ℕ) {first many at left : ℕ} (y : Asking s first many at left) where
@@ -74,14 +74,14 @@ all-laid job st (c ∷ cs) h =
 
 module _ {s : List ℕ} {job : Job} (k : CheckedJob s job) where
   -- an answer has at most 64 / 25 of its job's bytes
-  pub laid-short : (st : Progress) → jobLaid s job ≡ given st → 25 * answerLength st ≤ 64 * length s
-  unfolding jobLaid layoutRows layoutJob andThen laidBytes
+  pub laid-short : (st : Progress) → jobOutcome s job ≡ given st → 25 * answerLength st ≤ 64 * length s
+  unfolding jobOutcome layoutRows layoutJob andThen writtenBytes
   laid-short st e =
       let given-rows : layoutRows s ≡ given (rowsOf (st .chunks)) = rw (k .passed, e) refl in
       omega (arith, answer-bound s (rowsOf (st .chunks)) given-rows, answer-long (rowsOf (st .chunks)))
 
-  pub straight-fits : all sure (jobAt s job .chunks) ≡ true → (room : ℕ) → 64 * length s < room * 25 → fitsIn room (jobLaid s job) ≡ true
-  unfolding jobLaid
+  pub straight-fits : all sure (jobAt s job .chunks) ≡ true → (room : ℕ) → 64 * length s < room * 25 → fitsIn room (jobOutcome s job) ≡ true
+  unfolding jobOutcome
   straight-fits h room r =
       let laid = all-laid (jobAt s job) beginning (jobAt s job .chunks) h in
-      fits-of (jobLaid s job) (laid .0) (laid .1) room (omega (arith, laid-short (laid .0) (laid .1)))
+      fits-of (jobOutcome s job) (laid .0) (laid .1) room (omega (arith, laid-short (laid .0) (laid .1)))

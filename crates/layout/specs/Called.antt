@@ -3,13 +3,13 @@ use Prim.Native.Nat.{ℕ, _*_, _≤_}
 use mathlib.Core.Path.{_≡_}
 use mathlib.Core.List.{List}
 use lib.ListN.{length}
-use Rattle.labels.specs.Outcome.{given}
-use Rattle.labels.specs.Check.{checked}
-use Rattle.labels.specs.Layout.{layoutOf, numberOf, lengthOf, bufferAfter}
-use Rattle.labels.specs.Exact.{NearAnswer}
+use Rattle.spec.specs.Outcome.{given}
+use Rattle.spec.specs.Check.{checked}
+use Rattle.spec.specs.Layout.{layoutOf, numberOf, lengthOf, bufferAfter}
+use Rattle.spec.specs.Exact.{NearAnswer}
 
 -- The call with the job's bytes `job` and a buffer that holds `old`: it returns the number `returned` and the length `size`, and leaves the buffer as `new`.
-pub record LaidOut (job old : List ℕ) (returned size : ℕ) (new : List ℕ) : Type 0 where
+pub record LayoutPromise (job old : List ℕ) (returned size : ℕ) (new : List ℕ) : Type 0 where
   -- document 01's number
   pub number : returned ≡ numberOf (layoutOf job (length old))
   -- the answer's whole length; 0 where the job is refused

@@ -1,15 +1,15 @@
 // The call: a job in, an answer or a refusal out.
-mod aside;
 mod chunks;
+mod staging;
 
-use answer::head::put_answer_head;
-use aside::put_chunks;
-use chunk::progress::Laid;
+use answer_rows::head::put_answer_head;
+use chunk::progress::ChunkResult;
 use chunks::count_of;
-use job::check::Checked;
-use job::check::check;
+use job_checks::check::Checked;
+use job_checks::check::check;
+use staging::layout_all;
 ghost use Rattle.layout.specs.Returned.{returnedNumber, returnedLength};
-ghost use Rattle.layout.specs.Called.{LaidOut};
+ghost use Rattle.layout.specs.Called.{LayoutPromise};
 
 // The answer's whole length, or the number that the job is refused with.
 pub enum Answered {
@@ -23,14 +23,14 @@ pub const TOO_LONG: u8 = 10;
 // The whole call. What it promises, of any bytes and any buffer, is in specs/Called: the number, the length, the buffer's bytes, how
 // much to lend, and demand 3. The answer's head comes last.
 pub fn layout_text(job: &[u8], answer: &mut [u8]) -> Answered
-    ensures { λ r. ⌜ LaidOut (now (job .entry)) (now (answer .entry)) (returnedNumber r) (returnedLength r) (now (answer .exit)) ⌝ }
+    ensures { λ r. ⌜ LayoutPromise (now (job .entry)) (now (answer .entry)) (returnedNumber r) (returnedLength r) (now (answer .exit)) ⌝ }
 {
     match check(job) {
         Checked::Refused(number) => Answered::Refused(number),
         Checked::Accepted(places) => {
-            match put_chunks(job, places, answer) {
-                Laid::Refused(number) => Answered::Refused(number),
-                Laid::Going(end) => {
+            match layout_all(job, places, answer) {
+                ChunkResult::Refused(number) => Answered::Refused(number),
+                ChunkResult::Done(end) => {
                     if answer.len() < end.length {
                         return Answered::Refused(TOO_LONG);
                     }

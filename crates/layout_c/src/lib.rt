@@ -5,7 +5,7 @@ use layout::Answered;
 ghost use mathlib.Core.Path.{_≡_};
 ghost use Prim.Native.Nat.{_<_};
 ghost use Rattle.layout.specs.Returned.{returnedNumber, returnedLength};
-ghost use Rattle.layout.specs.Called.{LaidOut};
+ghost use Rattle.layout.specs.Called.{LayoutPromise};
 
 #[repr(C)]
 pub struct LayoutResult {
@@ -31,7 +31,7 @@ fn result_of(answered: Answered) -> LayoutResult
 
 #[no_mangle]
 pub extern "C" fn layout_text(job: &[u8], answer: &mut [u8]) -> LayoutResult
-    ensures { λ r. ⌜ LaidOut (now (job .entry)) (now (answer .entry)) (r .number) (r .length) (now (answer .exit)) ⌝ }
+    ensures { λ r. ⌜ LayoutPromise (now (job .entry)) (now (answer .entry)) (r .number) (r .length) (now (answer .exit)) ⌝ }
 {
     result_of(layout::layout_text(job, answer))
 }

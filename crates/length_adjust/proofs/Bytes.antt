@@ -8,17 +8,17 @@ use mathlib.Core.List.{List, [], _∷_, map}
 use native.Mathlib.Omega.{arith}
 use lib.ListN.{length, take, drop}
 use borrow.Author.Tests.{le-leb, lt-leb, lt-ltb, le-ltb}
-use Rattle.labels.specs.Lists.{any, findIdx, All}
-use Rattle.labels.specs.declared.Span.{Span}
-use Rattle.labels.specs.Merge.{spanContains}
-use Rattle.labels.specs.Position.{entries, logicalOrder}
-use Rattle.labels.specs.Looked.{highest, bytesLooked}
-use Rattle.laws.proofs.All.{first, rest, all-weaken}
-use Rattle.sorting.specs.Sorted.{insertKey, sorted}
+use Rattle.spec.specs.Lists.{any, findIdx, All}
+use Rattle.spec.specs.declared.Span.{Span}
+use Rattle.spec.specs.Merge.{spanContains}
+use Rattle.spec.specs.Position.{entries, logicalOrder}
+use Rattle.spec.specs.Looked.{highest, bytesLooked}
+use Rattle.spec_laws.proofs.All.{first, rest, all-weaken}
+use Rattle.sort.specs.Sorted.{insertKey, sorted}
 use Rattle.text_order.specs.Keys.{keyOf, keysOf}
-use Rattle.sorting.proofs.Cases.{in-order}
-use Rattle.sorting.proofs.Insertion.{insert-past, insert-here}
-use Rattle.sorting.proofs.Ascending.{Ascends, drop-ascends}
+use Rattle.sort.proofs.Cases.{in-order}
+use Rattle.sort.proofs.Insertion.{insert-past, insert-here}
+use Rattle.sort.proofs.Ascending.{Ascends, drop-ascends}
 use Rattle.text_order.proofs.TextKeys.{order-keys}
 use Rattle.length_adjust.specs.Marks.{below, ownKeys, bytesTo}
 use Rattle.length_adjust.proofs.Passed.{below-stop, below-on, not-below}

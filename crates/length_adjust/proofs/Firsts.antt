@@ -8,14 +8,14 @@ use native.Mathlib.Omega.{arith}
 use lib.ListN.{length, drop}
 use lib.Dec.{eqb}
 use borrow.Author.Tests.{eq-eqb, ne-eqb, le-leb, lt-leb}
-use Rattle.labels.specs.Lists.{findIdx, All}
-use Rattle.labels.specs.Position.{entries}
-use Rattle.laws.proofs.All.{all-weaken}
-use Rattle.sorting.specs.Sorted.{insertKey, sorted}
+use Rattle.spec.specs.Lists.{findIdx, All}
+use Rattle.spec.specs.Position.{entries}
+use Rattle.spec_laws.proofs.All.{all-weaken}
+use Rattle.sort.specs.Sorted.{insertKey, sorted}
 use Rattle.text_order.specs.Keys.{keyOf, keysOf}
-use Rattle.sorting.proofs.Cases.{in-order}
-use Rattle.sorting.proofs.Insertion.{insert-nil, insert-past, insert-here, all-sorted}
-use Rattle.sorting.proofs.Ascending.{Ascends, sorted-ascends, drop-ascends}
+use Rattle.sort.proofs.Cases.{in-order}
+use Rattle.sort.proofs.Insertion.{insert-nil, insert-past, insert-here, all-sorted}
+use Rattle.sort.proofs.Ascending.{Ascends, sorted-ascends, drop-ascends}
 use Rattle.length_adjust.specs.Marks.{below, placeFor, found}
 use Rattle.length_adjust.proofs.Cases.{same-or-not}
 

@@ -8,20 +8,20 @@ use lib.ListN.{length, drop, length-map, drop-of-length-le}
 use lib.Seq.{drop-cons}
 use lib.Dec.{eqb}
 use lib.Ieee.{Float, lt}
-use Rattle.labels.specs.Outcome.{Outcome, refused, given, IfGiven}
-use Rattle.labels.specs.Lists.{modify, all, atOr}
-use Rattle.labels.specs.Single.{+0, isZero, thousandth, _/ᶠ_}
-use Rattle.labels.specs.declared.Span.{Span}
-use Rattle.labels.specs.declared.Cluster.{Cluster}
-use Rattle.labels.specs.Job.{blankSpan, spanAt, hasLength, adjustSpacingAndGlyphs}
-use Rattle.labels.specs.LengthAdjust.{clusterIndexes, sumAt, spacingFactor, takenOf, stretchedBy, adjustSpacingOf, widthOf, scaledBy, adjustGlyphsOf, adjustSpan, applyLengthAdjust}
-use Rattle.labels.specs.ClusterParts.{withScale}
-use Rattle.labels.specs.Cluster.{rounded}
-use Rattle.labels.specs.Looked.{spanLooked, spansLooked}
-use Rattle.laws.proofs.All.{fold-keeps, cond-keeps}
-use Rattle.laws.proofs.IfGiven.{of-given}
-use Rattle.clusters.specs.Clusters.{clustersOf, indexesIn}
-use Rattle.clusters.proofs.Rows.{clusters-indexes}
+use Rattle.spec.specs.Outcome.{Outcome, refused, given, IfGiven}
+use Rattle.spec.specs.Lists.{modify, all, getOr}
+use Rattle.spec.specs.Single.{+0, isZero, thousandth, _/ᶠ_}
+use Rattle.spec.specs.declared.Span.{Span}
+use Rattle.spec.specs.declared.Cluster.{Cluster}
+use Rattle.spec.specs.Job.{blankSpan, spanAt, hasLength, adjustSpacingAndGlyphs}
+use Rattle.spec.specs.LengthAdjust.{clusterIndexes, sumAt, spacingFactor, takenOf, stretchedBy, adjustSpacingOf, widthOf, scaledBy, adjustGlyphsOf, adjustSpan, applyLengthAdjust}
+use Rattle.spec.specs.ClusterParts.{withScale}
+use Rattle.spec.specs.Cluster.{rounded}
+use Rattle.spec.specs.Looked.{spanLooked, spansLooked}
+use Rattle.spec_laws.proofs.All.{fold-keeps, cond-keeps}
+use Rattle.spec_laws.proofs.IfGiven.{of-given}
+use Rattle.cluster_table.specs.Clusters.{clustersOf, indexesIn}
+use Rattle.cluster_table.proofs.Rows.{clusters-indexes}
 
 -- what g gives of each element is left as it is where f leaves it at one
 modify-keeps : {A B : Type 0} (g : A → B) (f : A → A) → ((x : A) → g (f x) ≡ g x) → (xs : List A) (i : ℕ) → map g (modify f xs i) ≡ map g xs
@@ -52,7 +52,7 @@ module _ (is : List ℕ) where
   glyphs-keep s cs k [] = k
   glyphs-keep s cs k (i ∷ places) =
       let factor = s .length /ᶠ sumAt rounded widthOf cs (i ∷ places) in
-      cond-keeps (IfGiven Kept) (all (λ (j : ℕ). isZero (atOr +0 widthOf cs j)) (i ∷ places)) tt
+      cond-keeps (IfGiven Kept) (all (λ (j : ℕ). isZero (getOr +0 widthOf cs j)) (i ∷ places)) tt
       (cond-keeps Kept (lt factor thousandth) k (at-places (withScale factor) (λ c. refl) cs k (i ∷ places)))
 
   span-keeps : (o : Outcome (List Cluster)) (s : Span) → IfGiven Kept o → IfGiven Kept (adjustSpan o s)

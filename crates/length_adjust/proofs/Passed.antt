@@ -7,11 +7,11 @@ use native.Mathlib.Omega.{arith}
 use lib.ListN.{length, getD, take, drop, drop-of-length-le}
 use lib.Seq.{drop-cons}
 use borrow.Author.Tests.{le-leb, lt-leb, eq-eqb, ne-eqb}
-use Rattle.labels.specs.Lists.{findIdx, All}
-use Rattle.labels.specs.declared.Span.{Span}
-use Rattle.laws.proofs.All.{all-weaken, all-take, all-drop}
-use Rattle.sorting.proofs.Cases.{in-order}
-use Rattle.sorting.proofs.Ascending.{Least, Ascends, take-ascends, drop-ascends}
+use Rattle.spec.specs.Lists.{findIdx, All}
+use Rattle.spec.specs.declared.Span.{Span}
+use Rattle.spec_laws.proofs.All.{all-weaken, all-take, all-drop}
+use Rattle.sort.proofs.Cases.{in-order}
+use Rattle.sort.proofs.Ascending.{Least, Ascends, take-ascends, drop-ascends}
 use Rattle.length_adjust.specs.Marks.{below, placeFor, ownKeys}
 
 -- ---- the next key

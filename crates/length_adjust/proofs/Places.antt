@@ -7,11 +7,11 @@ use native.Mathlib.Omega.{arith}
 use lib.ListN.{length, set, take, drop, replicate, length-set, length-drop, length-replicate}
 use lib.Dec.{eqb}
 use lib.Seq.{set-out, take-set-le, drop-set-lt, take-set-lt, drop-set-add, take-suc-set, drop-drop}
-use Rattle.laws.proofs.All.{both, cond-keeps, all-take, all-drop}
-use Rattle.labels.specs.Lists.{All}
-use Rattle.labels.specs.declared.Span.{Span}
-use Rattle.sorting.proofs.Cases.{in-order}
-use Rattle.sorting.proofs.Ascending.{Ascends}
+use Rattle.spec_laws.proofs.All.{both, cond-keeps, all-take, all-drop}
+use Rattle.spec.specs.Lists.{All}
+use Rattle.spec.specs.declared.Span.{Span}
+use Rattle.sort.proofs.Cases.{in-order}
+use Rattle.sort.proofs.Ascending.{Ascends}
 use Rattle.length_adjust.specs.declared.range.Range.{Range}
 use Rattle.length_adjust.specs.Marks.{markedFrom, marked, segment, markedIn, mark, placeFor, found, below, ownKeys, bytesTo, placesOf, takingPart}
 use Rattle.length_adjust.proofs.Search.{search-marks}

@@ -7,11 +7,11 @@ use native.Mathlib.Omega.{arith}
 use lib.ListN.{length, getD, set, take, drop, length-set}
 use lib.Seq.{drop-cons, drop-drop, set-out}
 use borrow.Author.Tests.{ne-eqb}
-use Rattle.labels.specs.Lists.{findIdx, All}
-use Rattle.labels.specs.declared.Span.{Span}
-use Rattle.laws.proofs.All.{first, all-weaken}
-use Rattle.sorting.proofs.Cases.{in-order}
-use Rattle.sorting.proofs.Ascending.{Ascends, drop-ascends}
+use Rattle.spec.specs.Lists.{findIdx, All}
+use Rattle.spec.specs.declared.Span.{Span}
+use Rattle.spec_laws.proofs.All.{first, all-weaken}
+use Rattle.sort.proofs.Cases.{in-order}
+use Rattle.sort.proofs.Ascending.{Ascends, drop-ascends}
 use Rattle.length_adjust.specs.Marks.{mark, below, placeFor, found, ownKeys, bytesTo}
 use Rattle.length_adjust.proofs.Passed.{below-stop, below-on, none-below, not-below, own-ascends, own-from, own-before}
 use Rattle.length_adjust.proofs.Firsts.{firstOf, first-late, first-kept, upFrom, found-firsts}

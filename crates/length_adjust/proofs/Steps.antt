@@ -7,16 +7,16 @@ use native.Mathlib.Omega.{arith}
 use lib.ListN.{length}
 use lib.Ieee.{lt}
 use borrow.Author.Tests.{ne-eqb}
-use Rattle.labels.specs.Outcome.{refused, given}
-use Rattle.labels.specs.Lists.{modify, all, atOr}
-use Rattle.labels.specs.Single.{+0, _/ᶠ_, isZero, thousandth}
-use Rattle.labels.specs.declared.Span.{Span}
-use Rattle.labels.specs.declared.Cluster.{Cluster}
-use Rattle.labels.specs.LengthAdjust.{clusterIndexes, sumAt, spacingFactor, takenOf, stretchedBy, adjustSpacingOf, widthOf, scaledBy, adjustGlyphsOf, adjustSpan}
-use Rattle.labels.specs.ClusterParts.{withScale}
-use Rattle.labels.specs.Cluster.{rounded}
-use Rattle.labels.specs.Kind.{indexes}
-use Rattle.labels.specs.Looked.{bytesLooked, spanLooked}
+use Rattle.spec.specs.Outcome.{refused, given}
+use Rattle.spec.specs.Lists.{modify, all, getOr}
+use Rattle.spec.specs.Single.{+0, _/ᶠ_, isZero, thousandth}
+use Rattle.spec.specs.declared.Span.{Span}
+use Rattle.spec.specs.declared.Cluster.{Cluster}
+use Rattle.spec.specs.LengthAdjust.{clusterIndexes, sumAt, spacingFactor, takenOf, stretchedBy, adjustSpacingOf, widthOf, scaledBy, adjustGlyphsOf, adjustSpan}
+use Rattle.spec.specs.ClusterParts.{withScale}
+use Rattle.spec.specs.Cluster.{rounded}
+use Rattle.spec.specs.Arithmetic.{indexes}
+use Rattle.spec.specs.Looked.{bytesLooked, spanLooked}
 use Rattle.length_adjust.specs.Sums.{takenAt}
 
 module _ (s : Span) (cs : List Cluster) where
@@ -63,7 +63,7 @@ module _ (s : Span) (cs : List Cluster) where
   glyphs-none (i ∷ is) h = absurd (omega arith)
 
   abbrev flat : ℕ → Bool
-  flat k = isZero (atOr +0 widthOf cs k)
+  flat k = isZero (getOr +0 widthOf cs k)
 
   pub glyphs-refused : (is : List ℕ) → (length is ≡ 0 → ⊥) → all flat is ≡ true → adjustGlyphsOf s cs is ≡ refused 9
   unfolding adjustGlyphsOf

@@ -9,19 +9,19 @@ use lib.ListN.{length, set, replicate}
 use lib.Seq.{take-all}
 use lib.Dec.{eqb, leb, ltb}
 use borrow.Author.Tests.{eq-eqb, ne-eqb, lt-ltb, le-ltb, le-leb, lt-leb}
-use Rattle.labels.specs.Lists.{all, any, among, findIdx, All}
-use Rattle.labels.specs.declared.Span.{Span}
-use Rattle.labels.specs.Position.{entries, logicalOrder}
-use Rattle.labels.specs.LengthAdjust.{placesFrom}
-use Rattle.labels.specs.Looked.{bytesLooked}
-use Rattle.laws.proofs.All.{all-weaken, all-true}
-use Rattle.clusters.specs.Clusters.{indexesIn}
-use Rattle.sorting.specs.Sorted.{ascending}
+use Rattle.spec.specs.Lists.{all, any, elem, findIdx, All}
+use Rattle.spec.specs.declared.Span.{Span}
+use Rattle.spec.specs.Position.{entries, logicalOrder}
+use Rattle.spec.specs.LengthAdjust.{placesFrom}
+use Rattle.spec.specs.Looked.{bytesLooked}
+use Rattle.spec_laws.proofs.All.{all-weaken, all-true}
+use Rattle.cluster_table.specs.Clusters.{indexesIn}
+use Rattle.sort.specs.Sorted.{ascending}
 use Rattle.text_order.specs.Keys.{keyOf, keysOf}
 use Rattle.text_order.specs.Ordered.{Ordered}
-use Rattle.sorting.proofs.Cases.{in-order}
-use Rattle.sorting.proofs.Insertion.{all-sorted}
-use Rattle.sorting.proofs.Ascending.{sorted-ascends, ascending-of-ascends}
+use Rattle.sort.proofs.Cases.{in-order}
+use Rattle.sort.proofs.Insertion.{all-sorted}
+use Rattle.sort.proofs.Ascending.{sorted-ascends, ascending-of-ascends}
 use Rattle.text_order.proofs.TextKeys.{order-keys}
 use Rattle.text_order.proofs.Keys.{indexes-length}
 use Rattle.length_adjust.specs.Marks.{markedFrom, marked, mark, takingPart}
@@ -31,7 +31,7 @@ use Rattle.length_adjust.proofs.Bytes.{indexOf, text-looked}
 
 -- 1 for each byte index that takes part where a span goes from lo to hi; `seen` came before
 abbrev takes : ℕ → ℕ → List ℕ → ℕ → Bool
-takes lo hi seen i = (leb lo i && ltb i hi) && not (among i seen)
+takes lo hi seen i = (leb lo i && ltb i hi) && not (elem i seen)
 
 abbrev marksTo : ℕ → ℕ → List ℕ → List ℕ → List ℕ
 marksTo lo hi seen [] = []
@@ -72,10 +72,10 @@ module _ (lo b : ℕ) where
       in-order b i (λ h. rw (le-ltb i b h, le-ltb i (b + 1) (omega arith))) (λ h. rw (lt-ltb i b h, lt-ltb i (b + 1) (omega arith)))
 
   -- the byte index itself, once it was seen
-  takes-seen : (seen : List ℕ) (hi : ℕ) → among b seen ≡ true → takes lo hi seen b ≡ false
+  takes-seen : (seen : List ℕ) (hi : ℕ) → elem b seen ≡ true → takes lo hi seen b ≡ false
   takes-seen seen hi e = rw e (and-false (leb lo b && ltb b hi))
 
-  marks-seen : (seen is : List ℕ) → among b seen ≡ true → marksTo lo (b + 1) seen is ≡ marksTo lo b seen is
+  marks-seen : (seen is : List ℕ) → elem b seen ≡ true → marksTo lo (b + 1) seen is ≡ marksTo lo b seen is
   unfolding any
   marks-seen seen [] e = refl
   marks-seen seen (i ∷ is) e =
@@ -85,7 +85,7 @@ module _ (lo b : ℕ) where
       rw (same, more)
 
   -- and where it was not: the first cluster of byte index b is marked
-  marks-more : lo ≤ b → (seen is : List ℕ) → among b seen ≡ false
+  marks-more : lo ≤ b → (seen is : List ℕ) → elem b seen ≡ false
       → set (marksTo lo b seen is) (findIdx (λ (j : ℕ). eqb j b) is) 1 ≡ marksTo lo (b + 1) seen is
   unfolding any findIdx
   marks-more l seen [] e = refl

@@ -9,7 +9,7 @@ use lib.ListN.{length, getD, take, drop, length-take, length-drop}
 use lib.Seq.{drop-cons}
 use lib.Dec.{eqb}
 use borrow.Author.Tests.{ne-eqb}
-use Rattle.labels.specs.Lists.{all}
+use Rattle.spec.specs.Lists.{all}
 use Rattle.length_adjust.specs.declared.range.Range.{Range}
 use Rattle.length_adjust.specs.Marks.{markedFrom, segment, markedIn}
 

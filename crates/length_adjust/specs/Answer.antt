@@ -1,7 +1,7 @@
 -- What step 6 answers, with the clusters that it leaves. Definitions only.
 use mathlib.Core.List.{List}
-use Rattle.labels.specs.Outcome.{Outcome, refused, given}
-use Rattle.labels.specs.declared.Cluster.{Cluster}
+use Rattle.spec.specs.Outcome.{Outcome, refused, given}
+use Rattle.spec.specs.declared.Cluster.{Cluster}
 use Rattle.length_adjust.specs.declared.Adjusted.{Adjusted}
 use Rattle.length_adjust.specs.declared.Adjusted.the-variants.{Done, Refused}
 

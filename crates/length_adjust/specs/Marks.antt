@@ -4,8 +4,8 @@ use mathlib.Core.Bool.{cond}
 use mathlib.Core.List.{List, [], _∷_, foldl}
 use lib.ListN.{take, drop, set, replicate}
 use lib.Dec.{leb, eqb}
-use Rattle.labels.specs.Lists.{findIdx}
-use Rattle.labels.specs.declared.Span.{Span}
+use Rattle.spec.specs.Lists.{findIdx}
+use Rattle.spec.specs.declared.Span.{Span}
 use Rattle.length_adjust.specs.declared.range.Range.{Range}
 
 -- ---- the places of the marks that are 1, where the first mark is that of place k

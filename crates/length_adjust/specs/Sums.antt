@@ -2,10 +2,10 @@
 use Prim.Native.Nat.{ℕ}
 use mathlib.Core.List.{List}
 use lib.ListN.{length}
-use Rattle.labels.specs.declared.Span.{Span}
-use Rattle.labels.specs.declared.Cluster.{Cluster}
-use Rattle.labels.specs.LengthAdjust.{sumAt, takenOf}
-use Rattle.labels.specs.Cluster.{rounded}
+use Rattle.spec.specs.declared.Span.{Span}
+use Rattle.spec.specs.declared.Cluster.{Cluster}
+use Rattle.spec.specs.LengthAdjust.{sumAt, takenOf}
+use Rattle.spec.specs.Cluster.{rounded}
 use Rattle.length_adjust.specs.declared.walk.Total.{Total}
 
 -- what is brought to the span's length at the places, added up, and how many they are

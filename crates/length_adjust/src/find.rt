@@ -4,16 +4,16 @@ use crate::keys::span_keys;
 use crate::range::Range;
 use crate::range::clear;
 use crate::range::places_of;
-use labels::Span;
+use spec::Span;
 ghost use mathlib.Core.Path.{_≡_};
 ghost use mathlib.Core.Bool.{true};
 ghost use mathlib.Core.List.{map};
 ghost use Prim.Native.Nat.{ℕ, _/_, _%_, _≤_};
 ghost use lib.ListN.{length, set};
 ghost use lib.Dec.{leb, ltb};
-ghost use Rattle.labels.specs.Lists.{all};
-ghost use Rattle.labels.specs.Looked.{bytesLooked};
-ghost use Rattle.sorting.specs.Sorted.{ascending};
+ghost use Rattle.spec.specs.Lists.{all};
+ghost use Rattle.spec.specs.Looked.{bytesLooked};
+ghost use Rattle.sort.specs.Sorted.{ascending};
 ghost use Rattle.length_adjust.specs.Marks.{markedIn, marked, mark, found, bytesTo, takingPart};
 
 // What a search came to: where the clusters stand that it marked, and how many bytes it looked at.

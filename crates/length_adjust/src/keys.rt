@@ -1,10 +1,10 @@
 // Keys in text order, passed over up to a byte index.
-use labels::Span;
+use spec::Span;
 ghost use mathlib.Core.Path.{_≡_};
 ghost use mathlib.Core.Bool.{true};
 ghost use Prim.Native.Nat.{_+_};
 ghost use lib.ListN.{drop};
-ghost use Rattle.sorting.specs.Sorted.{ascending};
+ghost use Rattle.sort.specs.Sorted.{ascending};
 ghost use Rattle.length_adjust.specs.Marks.{below, ownKeys};
 
 // How many keys have a byte index below `b`. The keys ascend, so that halving finds it.

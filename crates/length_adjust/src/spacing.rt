@@ -2,14 +2,14 @@
 use crate::range::Range;
 use crate::walk::stretch;
 use crate::walk::taken;
-use labels::Span;
+use spec::Span;
 ghost use mathlib.Core.Path.{_≡_};
 ghost use Prim.Native.Nat.{_≤_};
 ghost use mathlib.Core.List.{[]};
 ghost use lib.ListN.{length};
-ghost use Rattle.labels.specs.LengthAdjust.{placesFrom, spacingFactor, adjustSpacingOf};
-ghost use Rattle.labels.specs.Cluster.{rounded};
-ghost use Rattle.clusters.specs.Clusters.{clustersOf, indexesIn};
+ghost use Rattle.spec.specs.LengthAdjust.{placesFrom, spacingFactor, adjustSpacingOf};
+ghost use Rattle.spec.specs.Cluster.{rounded};
+ghost use Rattle.cluster_table.specs.Clusters.{clustersOf, indexesIn};
 ghost use Rattle.length_adjust.specs.Given.{Walkable};
 ghost use Rattle.length_adjust.specs.Marks.{markedIn};
 

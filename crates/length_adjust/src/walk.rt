@@ -1,20 +1,20 @@
 // Walks over the marked clusters of a range, in the order of the list. There is a mark for each cluster.
 use crate::range::Range;
-use clusters::cluster_at;
-use clusters::put_cluster;
-use clusters::put_floats;
-use labels::Cluster;
-use labels::Span;
+use cluster_table::cluster_at;
+use cluster_table::put_cluster;
+use cluster_table::put_floats;
+use spec::Cluster;
+use spec::Span;
 ghost use mathlib.Core.Path.{_≡_};
 ghost use Prim.Native.Nat.{ℕ};
 ghost use mathlib.Core.List.{foldl};
 ghost use lib.ListN.{length};
-ghost use Rattle.labels.specs.Lists.{all, modify, atOr};
-ghost use Rattle.labels.specs.Single.{+0, isZero};
-ghost use Rattle.labels.specs.ClusterParts.{withScale};
-ghost use Rattle.labels.specs.LengthAdjust.{takenOf, stretchedBy, widthOf};
-ghost use Rattle.labels.specs.Cluster.{rounded};
-ghost use Rattle.clusters.specs.Clusters.{clustersOf};
+ghost use Rattle.spec.specs.Lists.{all, modify, getOr};
+ghost use Rattle.spec.specs.Single.{+0, isZero};
+ghost use Rattle.spec.specs.ClusterParts.{withScale};
+ghost use Rattle.spec.specs.LengthAdjust.{takenOf, stretchedBy, widthOf};
+ghost use Rattle.spec.specs.Cluster.{rounded};
+ghost use Rattle.cluster_table.specs.Clusters.{clustersOf};
 ghost use Rattle.length_adjust.specs.Given.{Walkable};
 ghost use Rattle.length_adjust.specs.Marks.{markedIn};
 ghost use Rattle.length_adjust.specs.Sums.{takenAt};
@@ -66,7 +66,7 @@ pub fn taken(
 // Whether each width is zero.
 pub fn all_zero(floats: &[[f32; 10]], words: &[[u32; 6]], marks: &[u32], within: Range) -> bool
     requires { ⌜ Walkable within (now marks) (now floats) (now words) ⌝ }
-    ensures { λ r. ⌜ r ≡ all (λ (k : ℕ). isZero (atOr +0 widthOf (clustersOf (now (floats .entry)) (now (words .entry)) (length (now (marks .entry)))) k))
+    ensures { λ r. ⌜ r ≡ all (λ (k : ℕ). isZero (getOr +0 widthOf (clustersOf (now (floats .entry)) (now (words .entry)) (length (now (marks .entry)))) k))
         (markedIn within (now (marks .entry))) ⌝ }
 {
     let to = within.to;

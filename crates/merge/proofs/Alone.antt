@@ -6,14 +6,14 @@ use mathlib.Core.List.{List, [], _∷_, foldl}
 use native.Mathlib.Nat.{not-suc-le-zero, le-of-suc-le-suc}
 use native.Mathlib.Omega.{arith}
 use lib.ListN.{length, getD, drop, length-map}
-use Rattle.laws.proofs.Records.{length-rows}
-use Rattle.laws.proofs.Outcomes.{mapped}
-use Rattle.labels.specs.Outcome.{given, andThen}
-use Rattle.labels.specs.Lists.{isEmpty, findIdx, atOr}
-use Rattle.labels.specs.declared.Glyph.{Glyph}
-use Rattle.labels.specs.Job.{SpanParts}
-use Rattle.labels.specs.Decode.{glyphBytes, glyphOf, glyphCount, partsOf}
-use Rattle.labels.specs.Merge.{mergeDone, mergeSpan, mergeGlyphs}
+use Rattle.spec_laws.proofs.Records.{length-rows}
+use Rattle.spec_laws.proofs.Outcomes.{mapped}
+use Rattle.spec.specs.Outcome.{given, andThen}
+use Rattle.spec.specs.Lists.{isEmpty, findIdx, getOr}
+use Rattle.spec.specs.declared.Glyph.{Glyph}
+use Rattle.spec.specs.Job.{SpanParts}
+use Rattle.spec.specs.Decode.{glyphBytes, glyphOf, glyphCount, partsOf}
+use Rattle.spec.specs.Merge.{mergeDone, mergeSpan, mergeGlyphs}
 use Rattle.job_rows.specs.Rows.{partsIn}
 use Rattle.merge.specs.Source.{hasGlyphs, glyphSpan, spanGlyphs}
 
@@ -40,7 +40,7 @@ behind ps = drop (findIdx hasGlyphs ps + 1) ps
 
 only-merged : (ps : List SpanParts) → length ps ≤ findIdx hasGlyphs ps + 1 + findIdx hasGlyphs (behind ps)
     → foldl mergeSpan (given []) ps ≡ given (spanGlyphs ps (findIdx hasGlyphs ps))
-unfolding findIdx isEmpty atOr mergeSpan
+unfolding findIdx isEmpty getOr mergeSpan
 only-merged [] h = refl
 only-merged (p ∷ ps) h = go (p .glyphs) refl (only-merged ps)
   where
@@ -95,13 +95,13 @@ module _ (span : List ℕ) where
 -- ---- the glyphs of one span
 
 pub own-here : (s spans : List ℕ) (k : ℕ) → k < length spans → spanGlyphs (partsIn s spans) k ≡ partsOf (drop (getD spans k 0) s) .glyphs
-unfolding partsIn atOr
+unfolding partsIn getOr
 own-here s [] k h = absurd (not-suc-le-zero h)
 own-here s (p ∷ ps) zero h = refl
 own-here s (p ∷ ps) (suc k) h = own-here s ps k (le-of-suc-le-suc h)
 
 pub own-past : (s spans : List ℕ) (k : ℕ) → length spans ≤ k → spanGlyphs (partsIn s spans) k ≡ []
-unfolding partsIn atOr
+unfolding partsIn getOr
 own-past s [] k h = refl
 own-past s (p ∷ ps) zero h = absurd (not-suc-le-zero h)
 own-past s (p ∷ ps) (suc k) h = own-past s ps k (le-of-suc-le-suc h)

@@ -10,11 +10,11 @@ use lib.Dec.{eqb}
 use lib.ListN.{length, take, drop, getD, length-take, drop-of-length-le}
 use lib.Seq.{drop-cons, getD-take}
 use borrow.Author.Tests.{eq-eqb, ne-eqb}
-use Rattle.laws.proofs.Outcomes.{mapped}
-use Rattle.labels.specs.Lists.{findIdx, atOr}
-use Rattle.labels.specs.declared.Glyph.{Glyph}
-use Rattle.labels.specs.Decode.{glyphOf}
-use Rattle.labels.specs.Merge.{placeOf, lengthAt}
+use Rattle.spec_laws.proofs.Outcomes.{mapped}
+use Rattle.spec.specs.Lists.{findIdx, getOr}
+use Rattle.spec.specs.declared.Glyph.{Glyph}
+use Rattle.spec.specs.Decode.{glyphOf}
+use Rattle.spec.specs.Merge.{placeOf, lengthAt}
 use Rattle.job_rows.specs.Rows.{glyphsAt}
 use Rattle.merge.specs.Merged.{glyphsIn}
 use Rattle.merge.proofs.Moved.{map-drop}
@@ -65,8 +65,8 @@ module _ (s rows : List ℕ) (n index : ℕ) where
       rw (drop-of-length-le (take n rows) f) (omega arith)
 
 -- what f gives of the glyph at a place of the list
-at-map : {A B C : Type 0} (b : C) (f : B → C) (h : A → B) (d : A) (l : List A) (n p : ℕ) → p < n → n ≤ length l → atOr b f (map h (take n l)) p ≡ f (h (getD l p d))
-unfolding atOr
+at-map : {A B C : Type 0} (b : C) (f : B → C) (h : A → B) (d : A) (l : List A) (n p : ℕ) → p < n → n ≤ length l → getOr b f (map h (take n l)) p ≡ f (h (getD l p d))
+unfolding getOr
 at-map b f h d l zero p k m = absurd (not-suc-le-zero k)
 at-map b f h d [] (suc n) p k m = absurd (not-suc-le-zero m)
 at-map b f h d (x ∷ l) (suc n) zero k m = refl

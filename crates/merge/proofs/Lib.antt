@@ -1,9 +1,9 @@
 pub mod Moved
 pub mod Found
 pub mod Places
-pub mod Marks
+pub mod Stamps
 pub mod Shifted
 pub mod Merges
-pub mod Turns
+pub mod LoopSteps
 pub mod Spans
 pub mod Alone

@@ -7,15 +7,15 @@ use mathlib.Core.List.{List, _∷_}
 use native.Mathlib.Omega.{arith}
 use lib.ListN.{length, drop, getD, set}
 use borrow.Author.Tests.{lt-ltb, le-ltb, le-leb, lt-leb}
-use Rattle.labels.specs.Lists.{among}
-use Rattle.labels.specs.declared.Glyph.{Glyph}
-use Rattle.labels.specs.declared.Span.{Span}
-use Rattle.labels.specs.Job.{limits}
-use Rattle.labels.specs.Decode.{glyphOf}
-use Rattle.labels.specs.Outcome.{Outcome, refused, given, andThen}
-use Rattle.labels.specs.Merge.{Merging, inserted, removed, skipped, insertNext, replaceLonger, replace, replaceFirst, mergeGlyph, spanContains, placeOf, lengthAt}
+use Rattle.spec.specs.Lists.{elem}
+use Rattle.spec.specs.declared.Glyph.{Glyph}
+use Rattle.spec.specs.declared.Span.{Span}
+use Rattle.spec.specs.Job.{limits}
+use Rattle.spec.specs.Decode.{glyphOf}
+use Rattle.spec.specs.Outcome.{Outcome, refused, given, andThen}
+use Rattle.spec.specs.Merge.{Merging, inserted, removed, skipped, insertNext, replaceLonger, replace, replaceFirst, mergeGlyph, spanContains, placeOf, lengthAt}
 use Rattle.merge.specs.Merged.{placesIn}
-use Rattle.merge.specs.Steps.{mergingAt, mergingOf, stamped, Stands}
+use Rattle.merge.specs.Steps.{mergingAt, mergingOf, stamped, AtState}
 use Rattle.merge.specs.declared.step.Progress.{Progress}
 use Rattle.merge.specs.declared.step.Step.{Step}
 use Rattle.merge.specs.declared.step.Step.the-variants.{Going, Halted}
@@ -85,11 +85,11 @@ module _ (s rows : List ℕ) (at : Progress) (row : ℕ) (positions : List ℕ) 
       unfolding replaceFirst
       missing h = rw (← index-is, e, counted, ← p-is, le-ltb p (at .count) h)
 
-      pub replaced : p < at .count → among p positions ≡ true → replaceFirst span g m ≡ given (skipped m)
+      pub replaced : p < at .count → elem p positions ≡ true → replaceFirst span g m ≡ given (skipped m)
       unfolding replaceFirst
       replaced h a = rw (← index-is, e, counted, ← p-is, lt-ltb p (at .count) h, a)
 
-      pub replaces : p < at .count → among p positions ≡ false → replaceFirst span g m ≡ replace g p m
+      pub replaces : p < at .count → elem p positions ≡ false → replaceFirst span g m ≡ replace g p m
       unfolding replaceFirst
       replaces h a = rw (← index-is, e, counted, ← p-is, lt-ltb p (at .count) h, a)
 
@@ -103,10 +103,10 @@ module _ (s rows : List ℕ) (at : Progress) (row : ℕ) (positions : List ℕ) 
   unfolding mergeGlyph andThen
   glyph-free span h = rw (le-ltb 0 (at .owed) h)
 
--- ---- a step is the outcome o, and the marks are those of the places that it remembers
+-- ---- a step is the outcome o, and the stamps are those of the places that it remembers
 
-pub stood : {s rows marks₀ marks : List ℕ} {stamp : ℕ} {o : Outcome Merging} (r : Step) (positions : List ℕ) → marks ≡ stamped stamp positions marks₀ → mergingOf r s rows positions ≡ o
-    → Stands r s rows stamp marks₀ marks o
+pub stood : {s rows stamps₀ stamps : List ℕ} {stamp : ℕ} {o : Outcome Merging} (r : Step) (positions : List ℕ) → stamps ≡ stamped stamp positions stamps₀ → mergingOf r s rows positions ≡ o
+    → AtState r s rows stamp stamps₀ stamps o
 unfolding mergingOf placesIn
 stood (Going at) positions known e = rw (← e) record { marked = known; is = refl }
 stood (Halted k) positions known e = rw (← e) record { marked = tt; is = refl }

@@ -7,11 +7,11 @@ use native.Mathlib.Numerals.{add-one}
 use native.Mathlib.Omega.{arith}
 use lib.ListN.{length, take, drop, getD, set, length-take, length-map, drop-of-length-le}
 use lib.Seq.{take-suc-set, drop-cons, drop-drop, take-set-lt, drop-set-lt, getD-take, append-snoc, take-take}
-use Rattle.labels.specs.Bytes.{rows}
+use Rattle.spec.specs.Bytes.{rows}
 use Rattle.job_rows.proofs.Walks.{rows-turn, rows-done}
-use Rattle.labels.specs.declared.Glyph.{Glyph}
-use Rattle.labels.specs.Decode.{glyphOf, glyphBytes}
-use Rattle.labels.specs.Merge.{inserted, removed}
+use Rattle.spec.specs.declared.Glyph.{Glyph}
+use Rattle.spec.specs.Decode.{glyphOf, glyphBytes}
+use Rattle.spec.specs.Merge.{inserted, removed}
 use Rattle.job_rows.specs.Rows.{glyphsAt}
 use Rattle.merge.specs.Merged.{glyphsIn}
 

@@ -8,22 +8,22 @@ use lib.Dec.{eqb, ltb}
 use lib.ListN.{length, drop, getD, set, replicate}
 use lib.Seq.{getD-set-other}
 use borrow.Author.Tests.{eqb-true, eqb-false, ne-eqb, ltb-true, ltb-false}
-use Rattle.labels.specs.Lists.{findIdx}
-use Rattle.labels.specs.declared.Glyph.{Glyph}
-use Rattle.labels.specs.Decode.{glyphOf}
-use Rattle.labels.specs.Merge.{Merging, placeOf}
+use Rattle.spec.specs.Lists.{findIdx}
+use Rattle.spec.specs.declared.Glyph.{Glyph}
+use Rattle.spec.specs.Decode.{glyphOf}
+use Rattle.spec.specs.Merge.{Merging, placeOf}
 use Rattle.merge.specs.Merged.{glyphsIn}
-use Rattle.merge.specs.Firsts.{bucketOf, bucketsFrom, firstsOf, lowered, Table, table, tableAfter, renewed, NoLater}
+use Rattle.merge.specs.Buckets.{bucketOf, bucketsFrom, bucketsOf, lowered, Table, table, tableAfter, renewed, LowerBounds}
 use Rattle.merge.proofs.Shifted.{After}
 use Rattle.merge.proofs.Found.{glyphs-next}
 
 -- ---- a table as it is made
 
 -- the glyph before place j is put
-pub bucket-put : (s rows : List ℕ) (n j index : ℕ) (firsts : List ℕ) → 0 < j → j ≤ n → n ≤ length rows → index ≡ glyphOf (drop (getD rows (j - 1) 0) s) .index
-    → set (bucketsFrom j (drop j (glyphsIn s rows n)) firsts) (bucketOf index) (j - 1) ≡ bucketsFrom (j - 1) (drop (j - 1) (glyphsIn s rows n)) firsts
+pub bucket-put : (s rows : List ℕ) (n j index : ℕ) (buckets : List ℕ) → 0 < j → j ≤ n → n ≤ length rows → index ≡ glyphOf (drop (getD rows (j - 1) 0) s) .index
+    → set (bucketsFrom j (drop j (glyphsIn s rows n)) buckets) (bucketOf index) (j - 1) ≡ bucketsFrom (j - 1) (drop (j - 1) (glyphsIn s rows n)) buckets
 unfolding bucketsFrom
-bucket-put s rows n j index firsts some within held index-is =
+bucket-put s rows n j index buckets some within held index-is =
     let here : j - 1 < n = omega arith in
     let on : j - 1 + 1 ≡ j = omega arith in
     rw (glyphs-next s rows n (j - 1) here held, on, index-is)
@@ -33,21 +33,21 @@ filled-at zero n b = omega arith
 filled-at (suc k) n zero = omega arith
 filled-at (suc k) n (suc b) = filled-at k n b
 
-put-at : (firsts : List ℕ) (b place : ℕ) → getD (set firsts b place) b 0 ≤ place
+put-at : (buckets : List ℕ) (b place : ℕ) → getD (set buckets b place) b 0 ≤ place
 put-at [] b place = omega arith
-put-at (f ∷ firsts) zero place = omega arith
-put-at (f ∷ firsts) (suc b) place = put-at firsts b place
+put-at (f ∷ buckets) zero place = omega arith
+put-at (f ∷ buckets) (suc b) place = put-at buckets b place
 
 -- no entry is past the place of the first glyph of one of its byte indexes, where the glyphs are those from place p on
-buckets-known : (p : ℕ) (gs : List Glyph) (firsts : List ℕ) → ((k : ℕ) → getD firsts k 0 ≤ p + length gs) → (b : ℕ)
-    → getD (bucketsFrom p gs firsts) (bucketOf b) 0 ≤ placeOf b gs + p
+buckets-known : (p : ℕ) (gs : List Glyph) (buckets : List ℕ) → ((k : ℕ) → getD buckets k 0 ≤ p + length gs) → (b : ℕ)
+    → getD (bucketsFrom p gs buckets) (bucketOf b) 0 ≤ placeOf b gs + p
 unfolding bucketsFrom findIdx
-buckets-known p [] firsts h b = omega (arith, h (bucketOf b))
-buckets-known p (g ∷ gs) firsts h b =
-    go (eqb (bucketOf (g .index)) (bucketOf b)) refl (buckets-known (p + 1) gs firsts (λ k. omega (arith, h k)) b)
+buckets-known p [] buckets h b = omega (arith, h (bucketOf b))
+buckets-known p (g ∷ gs) buckets h b =
+    go (eqb (bucketOf (g .index)) (bucketOf b)) refl (buckets-known (p + 1) gs buckets (λ k. omega (arith, h k)) b)
   where
     made : List ℕ
-    made = bucketsFrom (p + 1) gs firsts
+    made = bucketsFrom (p + 1) gs buckets
 
     go : (t : Bool) → eqb (bucketOf (g .index)) (bucketOf b) ≡ t → getD made (bucketOf b) 0 ≤ placeOf b gs + (p + 1)
         → getD (set made (bucketOf (g .index)) p) (bucketOf b) 0 ≤ placeOf b (g ∷ gs) + p
@@ -57,12 +57,12 @@ buckets-known p (g ∷ gs) firsts h b =
         rw (getD-set-other made (bucketOf (g .index)) (bucketOf b) p 0 (λ same. other (sym same)), ne-eqb (g .index) b (λ same. other (ap bucketOf same)))
         (omega arith)
 
-pub firsts-known : (size : ℕ) (gs : List Glyph) → NoLater 0 (firstsOf size gs) gs
-unfolding firstsOf
-firsts-known size gs = buckets-known 0 gs (replicate size (length gs)) (λ k. omega (arith, filled-at size (length gs) k))
+pub index-known : (size : ℕ) (gs : List Glyph) → LowerBounds 0 (bucketsOf size gs) gs
+unfolding bucketsOf
+index-known size gs = buckets-known 0 gs (replicate size (length gs)) (λ k. omega (arith, filled-at size (length gs) k))
 
 abbrev Known : List Glyph → Table → Type 0
-Known gs t = NoLater (t .slack) (t .firsts) gs
+Known gs t = LowerBounds (t .slack) (t .buckets) gs
 
 -- a table that is made anew, or whose slack is within its limit
 renewed-known : (gs : List Glyph) (t : Table) → Known gs t → Known gs (renewed gs t) × (renewed gs t .slack ≤ 32)
@@ -70,10 +70,10 @@ unfolding renewed
 renewed-known gs t known = go (ltb 32 (t .slack)) refl
   where
     again : Table
-    again = table (firstsOf (length (t .firsts)) gs) 0
+    again = table (bucketsOf (length (t .buckets)) gs) 0
 
     go : (test : Bool) → ltb 32 (t .slack) ≡ test → Known gs (cond test again t) × (cond test again t .slack ≤ 32)
-    go true e = (firsts-known (length (t .firsts)) gs, omega arith)
+    go true e = (index-known (length (t .buckets)) gs, omega arith)
     go false e = (known, ltb-false 32 (t .slack) e)
 
 -- ---- a table t, and the merge of g into the list of a state m, which left the list gs₁
@@ -82,30 +82,30 @@ module _ (m : Merging) (g : Glyph) (gs₁ : List Glyph) (after : After m g gs₁
   abbrev gs : List Glyph
   gs = m .list
 
-  lowers : length gs < length gs₁ → NoLater (t .slack + 1) (lowered (t .firsts) (g .index) (m .next)) gs₁
+  lowers : length gs < length gs₁ → LowerBounds (t .slack + 1) (lowered (t .buckets) (g .index) (m .next)) gs₁
   lowers h b = go (eqb (bucketOf (g .index)) (bucketOf b)) refl
     where
       entry : ℕ
       entry = bucketOf (g .index)
 
       low : ℕ
-      low = min (getD (t .firsts) entry 0) (m .next)
+      low = min (getD (t .buckets) entry 0) (m .next)
 
       -- b shares the entry of the glyph's byte index, or is it
       shared : entry ≡ bucketOf b → (test : Bool) → eqb (g .index) b ≡ test → low ≤ placeOf b gs₁ + (t .slack + 1)
       shared same true e = rw (← eqb-true (g .index) b e) (omega (arith, known (g .index), after .own h))
       shared same false e = rw same (omega (arith, known b, after .other h b (eqb-false (g .index) b e)))
 
-      go : (test : Bool) → eqb entry (bucketOf b) ≡ test → getD (lowered (t .firsts) (g .index) (m .next)) (bucketOf b) 0 ≤ placeOf b gs₁ + (t .slack + 1)
+      go : (test : Bool) → eqb entry (bucketOf b) ≡ test → getD (lowered (t .buckets) (g .index) (m .next)) (bucketOf b) 0 ≤ placeOf b gs₁ + (t .slack + 1)
       go true e =
           let same = eqb-true entry (bucketOf b) e in
-          rw (← same) (omega (arith, put-at (t .firsts) entry low, shared same (eqb (g .index) b) refl))
+          rw (← same) (omega (arith, put-at (t .buckets) entry low, shared same (eqb (g .index) b) refl))
       go false e =
           let other = eqb-false entry (bucketOf b) e in
-          rw (getD-set-other (t .firsts) entry (bucketOf b) low 0 (λ same. other (sym same)))
+          rw (getD-set-other (t .buckets) entry (bucketOf b) low 0 (λ same. other (sym same)))
           (omega (arith, known b, after .other h b (λ same. other (ap bucketOf same))))
 
-  stays : length gs₁ ≤ length gs → NoLater (t .slack + (length gs - length gs₁)) (t .firsts) gs₁
+  stays : length gs₁ ≤ length gs → LowerBounds (t .slack + (length gs - length gs₁)) (t .buckets) gs₁
   stays h b = omega (arith, known b, after .shorter h b)
 
   after-known : Known gs₁ (tableAfter (length gs) (length gs₁) (g .index) (m .next) t)
@@ -113,7 +113,7 @@ module _ (m : Merging) (g : Glyph) (gs₁ : List Glyph) (after : After m g gs₁
   after-known = go (ltb (length gs) (length gs₁)) refl
     where
       go : (test : Bool) → ltb (length gs) (length gs₁) ≡ test
-          → Known gs₁ (cond test (table (lowered (t .firsts) (g .index) (m .next)) (t .slack + 1)) (table (t .firsts) (t .slack + (length gs - length gs₁))))
+          → Known gs₁ (cond test (table (lowered (t .buckets) (g .index) (m .next)) (t .slack + 1)) (table (t .buckets) (t .slack + (length gs - length gs₁))))
       go true e = lowers (ltb-true (length gs) (length gs₁) e)
       go false e = stays (ltb-false (length gs) (length gs₁) e)
 

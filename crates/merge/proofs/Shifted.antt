@@ -9,13 +9,13 @@ use lib.Dec.{eqb, leb, ltb}
 use lib.ListN.{length, drop, set, length-append, length-take, length-drop, length-set}
 use lib.Seq.{take-nil, drop-nil}
 use borrow.Author.Tests.{eqb-true, ne-eqb}
-use Rattle.laws.proofs.All.{cond-keeps}
-use Rattle.labels.specs.Outcome.{Outcome, given, andThen, IfGiven}
-use Rattle.labels.specs.Lists.{findIdx}
-use Rattle.labels.specs.Job.{limits}
-use Rattle.labels.specs.declared.Glyph.{Glyph}
-use Rattle.labels.specs.declared.Span.{Span}
-use Rattle.labels.specs.Merge.{Merging, inserted, removed, mayReplace, insertNext, replaceLonger, replace, replaceFirst, mergeGlyph, placeOf, lengthAt}
+use Rattle.spec_laws.proofs.All.{cond-keeps}
+use Rattle.spec.specs.Outcome.{Outcome, given, andThen, IfGiven}
+use Rattle.spec.specs.Lists.{findIdx}
+use Rattle.spec.specs.Job.{limits}
+use Rattle.spec.specs.declared.Glyph.{Glyph}
+use Rattle.spec.specs.declared.Span.{Span}
+use Rattle.spec.specs.Merge.{Merging, inserted, removed, mayReplace, insertNext, replaceLonger, replace, replaceFirst, mergeGlyph, placeOf, lengthAt}
 
 -- a glyph takes the place of the first of its byte index
 place-set : (g : Glyph) (b : ℕ) (gs : List Glyph) → placeOf b (set gs (placeOf (g .index) gs) g) ≡ placeOf b gs

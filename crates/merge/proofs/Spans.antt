@@ -7,23 +7,23 @@ use native.Mathlib.Numerals.{add-one}
 use native.Mathlib.Omega.{arith}
 use lib.ListN.{length, getD, drop, drop-of-length-le}
 use lib.Seq.{drop-cons, drop-drop}
-use Rattle.labels.specs.Outcome.{Outcome, refused, given}
-use Rattle.labels.specs.Bytes.{rows as records}
-use Rattle.labels.specs.declared.Glyph.{Glyph}
-use Rattle.labels.specs.Job.{SpanParts, limits}
-use Rattle.labels.specs.Decode.{glyphOf, glyphBytes, glyphsAt, glyphCount, spanOf, partsOf}
-use Rattle.labels.specs.Merge.{Merging, spanBegun, mergeGlyph, mergeDone, mergeSpan, mergeGlyphs}
-use Rattle.laws.proofs.All.{first, rest}
-use Rattle.labels.specs.Lists.{All}
-use Rattle.laws.proofs.Records.{length-rows}
+use Rattle.spec.specs.Outcome.{Outcome, refused, given}
+use Rattle.spec.specs.Bytes.{rows as records}
+use Rattle.spec.specs.declared.Glyph.{Glyph}
+use Rattle.spec.specs.Job.{SpanParts, limits}
+use Rattle.spec.specs.Decode.{glyphOf, glyphBytes, glyphCountAt, glyphCount, spanOf, partsOf}
+use Rattle.spec.specs.Merge.{Merging, spanBegun, mergeGlyph, mergeDone, mergeSpan, mergeGlyphs}
+use Rattle.spec_laws.proofs.All.{first, rest}
+use Rattle.spec.specs.Lists.{All}
+use Rattle.spec_laws.proofs.Records.{length-rows}
 use Rattle.wire.proofs.Places.{cut-drops}
 use Rattle.job_rows.specs.Rows.{partsIn}
 use Rattle.job_rows.specs.Rows as lookup
-use Rattle.merge.specs.Merged.{glyphsIn, placesIn, spanPlaces, FewGlyphs}
+use Rattle.merge.specs.Merged.{glyphsIn, placesIn, replacedPlaces, FewGlyphs}
 use Rattle.merge.proofs.Moved.{glyphs-count}
 
 -- a span stands at `at`, of which p is the place or the end before it, and `row` is what follows there; its glyph count stands k bytes on, and is n
-pub own-glyphs : (s row : List ℕ) (at p k n : ℕ) → row ≡ drop at s → p ≡ min at (length s) → k ≡ glyphsAt row → n ≡ glyphCount row
+pub own-glyphs : (s row : List ℕ) (at p k n : ℕ) → row ≡ drop at s → p ≡ min at (length s) → k ≡ glyphCountAt row → n ≡ glyphCount row
     → records (λ b. glyphBytes) glyphOf n (drop (p + k + 2) s) ≡ partsOf (drop at s) .glyphs
 unfolding partsOf
 own-glyphs s row at p k n row-is p-is k-is n-is =
@@ -45,19 +45,19 @@ module _ (s : List ℕ) (parts : SpanParts) (first n : ℕ) (own : records (λ b
 
     more : (gs : List Glyph) → 0 < length gs → (P : List ℕ → Outcome (List Glyph) → Type 0)
         → (let o = foldl (mergeGlyph (parts .span)) (given (spanBegun gs)) (parts .glyphs) in P (placesIn o) (mergeDone o))
-        → P (spanPlaces gs parts) (mergeSpan (given gs) parts)
-    unfolding mergeSpan spanPlaces
+        → P (replacedPlaces gs parts) (mergeSpan (given gs) parts)
+    unfolding mergeSpan replacedPlaces
     more [] h P p = absurd (not-suc-le-zero h)
     more (g ∷ gs) h P p = p
 
     pub span-more : (P : List ℕ → Outcome (List Glyph) → Type 0) → P (placesIn merged) (mergeDone merged)
-        → P (spanPlaces (glyphsIn s rows count) parts) (mergeSpan (given (glyphsIn s rows count)) parts)
+        → P (replacedPlaces (glyphsIn s rows count) parts) (mergeSpan (given (glyphsIn s rows count)) parts)
     span-more P p = more (glyphsIn s rows count) (rw (glyphs-count s rows count held) some) P (rw own at p)
 
 -- an empty list becomes the span's own
 pub span-first : (s : List ℕ) (parts : SpanParts) (rows : List ℕ) (count : ℕ) → count ≡ 0 → (P : List ℕ → Outcome (List Glyph) → Type 0) → P [] (given (parts .glyphs))
-    → P (spanPlaces (glyphsIn s rows count) parts) (mergeSpan (given (glyphsIn s rows count)) parts)
-unfolding mergeSpan spanPlaces glyphsIn lookup.glyphsAt
+    → P (replacedPlaces (glyphsIn s rows count) parts) (mergeSpan (given (glyphsIn s rows count)) parts)
+unfolding mergeSpan replacedPlaces glyphsIn lookup.glyphsAt
 span-first s parts rows count e P p = rw e p
 
 pub own-span : (bs : List ℕ) → spanOf bs ≡ partsOf bs .span

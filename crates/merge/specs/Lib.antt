@@ -1,4 +1,4 @@
-pub mod Firsts
+pub mod Buckets
 pub mod Merged
 pub mod Source
 pub mod Steps

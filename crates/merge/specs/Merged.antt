@@ -3,16 +3,16 @@ use Prim.Native.Nat.{ℕ, _≤_, _<_}
 use mathlib.Core.Path.{_≡_}
 use mathlib.Core.List.{List, [], _∷_, foldl}
 use lib.ListN.{length, drop}
-use Rattle.labels.specs.Lists.{All}
+use Rattle.spec.specs.Lists.{All}
 use Rattle.job_rows.specs.Rows.{partsIn}
 unfoldable pub use Rattle.job_rows.specs.Rows.{glyphsIn}
-use Rattle.labels.specs.Outcome.{Outcome, refused, given}
-use Rattle.labels.specs.Bytes.{rows as records}
-use Rattle.labels.specs.declared.Glyph.{Glyph}
-use Rattle.labels.specs.declared.Span.{Span}
-use Rattle.labels.specs.Job.{SpanParts, limits}
-use Rattle.labels.specs.Decode.{glyphOf, glyphBytes}
-use Rattle.labels.specs.Merge.{Merging, spanBegun, mergeGlyph}
+use Rattle.spec.specs.Outcome.{Outcome, refused, given}
+use Rattle.spec.specs.Bytes.{rows as records}
+use Rattle.spec.specs.declared.Glyph.{Glyph}
+use Rattle.spec.specs.declared.Span.{Span}
+use Rattle.spec.specs.Job.{SpanParts, limits}
+use Rattle.spec.specs.Decode.{glyphOf, glyphBytes}
+use Rattle.spec.specs.Merge.{Merging, spanBegun, mergeGlyph}
 use Rattle.merge.specs.declared.Merge.{Merge}
 use Rattle.merge.specs.declared.Merge.the-variants as M
 
@@ -32,14 +32,14 @@ placesIn (refused k) = []
 placesIn (given m) = m .replaced
 
 -- the places of the list that a span replaces; none where the span's own list becomes it
-unfoldable pub spanPlaces : List Glyph → SpanParts → List ℕ
-spanPlaces [] p = []
-spanPlaces (g ∷ gs) p = placesIn (foldl (mergeGlyph (p .span)) (given (spanBegun (g ∷ gs))) (p .glyphs))
+unfoldable pub replacedPlaces : List Glyph → SpanParts → List ℕ
+replacedPlaces [] p = []
+replacedPlaces (g ∷ gs) p = placesIn (foldl (mergeGlyph (p .span)) (given (spanBegun (g ∷ gs))) (p .glyphs))
 
 -- the list is no longer than its limit; a refusal has a number
-abbrev pub Held : Merge → Type 0
-Held (M.Merged n) = n ≤ limits .merged
-Held (M.Refused k) = 0 < k
+abbrev pub CountOk : Merge → Type 0
+CountOk (M.Merged n) = n ≤ limits .merged
+CountOk (M.Refused k) = 0 < k
 
 -- a span's own list is no longer than its limit, as check 3 has it
 abbrev pub FewGlyphs : SpanParts → Type 0

@@ -3,9 +3,9 @@ use Prim.Native.Nat.{ℕ, _+_}
 use mathlib.Core.Bool.{Bool, not}
 use mathlib.Core.List.{List, []}
 use lib.ListN.{drop}
-use Rattle.labels.specs.Lists.{isEmpty, findIdx, atOr}
-use Rattle.labels.specs.declared.Glyph.{Glyph}
-use Rattle.labels.specs.Job.{SpanParts}
+use Rattle.spec.specs.Lists.{isEmpty, findIdx, getOr}
+use Rattle.spec.specs.declared.Glyph.{Glyph}
+use Rattle.spec.specs.Job.{SpanParts}
 
 abbrev pub hasGlyphs : SpanParts → Bool
 hasGlyphs p = not (isEmpty (p .glyphs))
@@ -16,4 +16,4 @@ glyphSpan ps k = k + findIdx hasGlyphs (drop k ps)
 
 -- the glyphs of span number k; none past the last span
 abbrev pub spanGlyphs : List SpanParts → ℕ → List Glyph
-spanGlyphs ps k = atOr [] (λ (p : SpanParts). p .glyphs) ps k
+spanGlyphs ps k = getOr [] (λ (p : SpanParts). p .glyphs) ps k

@@ -4,13 +4,13 @@ use mathlib.Core.Path.{_≡_}
 use mathlib.Core.Bool.{true}
 use mathlib.Core.List.{List, [], _∷_}
 use lib.ListN.{getD, length, set}
-use Rattle.labels.specs.Job.{limits}
-use Rattle.labels.specs.declared.Glyph.{Glyph}
-use Rattle.labels.specs.declared.Span.{Span}
-use Rattle.labels.specs.Outcome.{Outcome, refused, given, IfGiven}
-use Rattle.labels.specs.Merge.{Merging, spanContains, replaceFirst, mergeDone}
-use Rattle.merge.specs.Merged.{glyphsIn, mergedOf, placesIn, Held}
-use Rattle.merge.specs.Firsts.{NoLater}
+use Rattle.spec.specs.Job.{limits}
+use Rattle.spec.specs.declared.Glyph.{Glyph}
+use Rattle.spec.specs.declared.Span.{Span}
+use Rattle.spec.specs.Outcome.{Outcome, refused, given, IfGiven}
+use Rattle.spec.specs.Merge.{Merging, spanContains, replaceFirst, mergeDone}
+use Rattle.merge.specs.Merged.{glyphsIn, mergedOf, placesIn, CountOk}
+use Rattle.merge.specs.Buckets.{LowerBounds}
 use Rattle.merge.specs.declared.Merge.{Merge}
 use Rattle.merge.specs.declared.chunk.GlyphRows.{GlyphRows}
 use Rattle.merge.specs.declared.step.Progress.{Progress}
@@ -38,52 +38,52 @@ pub record Takes (at : Progress) (rows : List ℕ) (p : ℕ) : Type 0 where
   pub inside : p < at .count
 
 -- a step from `at` goes on in the same span, with the table of first places as it was, or is refused with a number
-abbrev pub Within : Progress → Step → Type 0
-Within at (Going next) = Fits next × (next .stamp ≡ at .stamp) × (next .slack ≡ at .slack)
-Within at (Halted k) = 0 < k
+abbrev pub StepOk : Progress → Step → Type 0
+StepOk at (Going next) = Fits next × (next .stamp ≡ at .stamp) × (next .slack ≡ at .slack)
+StepOk at (Halted k) = 0 < k
 
 -- every mark is less than n
-abbrev pub Below : ℕ → List ℕ → Type 0
-Below n marks = (p : ℕ) → p < length marks → getD marks p 0 < n
+abbrev pub StampsBelow : ℕ → List ℕ → Type 0
+StampsBelow n stamps = (p : ℕ) → p < length stamps → getD stamps p 0 < n
 
--- the marks with the stamp at some places
+-- the stamps with the stamp at some places
 unfoldable pub stamped : ℕ → List ℕ → List ℕ → List ℕ
-stamped stamp [] marks = marks
-stamped stamp (p ∷ ps) marks = set (stamped stamp ps marks) p stamp
+stamped stamp [] stamps = stamps
+stamped stamp (p ∷ ps) stamps = set (stamped stamp ps stamps) p stamp
 
--- The step r is the definitions' outcome o. Where that is a state, the marks are those from before the span, with the stamp at the places
--- replaced. Where it is a refusal, nothing is said of the marks: no one reads them again.
-pub record Stands (r : Step) (s rows : List ℕ) (stamp : ℕ) (marks₀ marks : List ℕ) (o : Outcome Merging) : Type 0 where
-  pub marked : IfGiven (λ (m : Merging). marks ≡ stamped stamp (m .replaced) marks₀) o
+-- The step r is the definitions' outcome o. Where that is a state, the stamps are those from before the span, with the stamp at the places
+-- replaced. Where it is a refusal, nothing is said of the stamps: no one reads them again.
+pub record AtState (r : Step) (s rows : List ℕ) (stamp : ℕ) (stamps₀ stamps : List ℕ) (o : Outcome Merging) : Type 0 where
+  pub marked : IfGiven (λ (m : Merging). stamps ≡ stamped stamp (m .replaced) stamps₀) o
   pub is : mergingOf r s rows (placesIn o) ≡ o
 
--- A step from `at` leaves the lent arrays their sizes. If the marks are earlier ones with the span's stamp at the places replaced so far,
+-- A step from `at` leaves the lent arrays their sizes. If the stamps are earlier ones with the span's stamp at the places replaced so far,
 -- it goes from the definitions' state with these places to the outcome o of them.
-pub record Stepped (at : Progress) (r : Step) (s rows marks marks₁ : List ℕ) (o : List ℕ → Outcome Merging) : Type 0 where
+pub record Stepped (at : Progress) (r : Step) (s rows stamps stamps₁ : List ℕ) (o : List ℕ → Outcome Merging) : Type 0 where
   pub row-room : length rows ≡ limits .merged
-  pub mark-room : length marks₁ ≡ limits .merged
-  pub within : Within at r
-  pub stands : (marks₀ positions : List ℕ) → Below (at .stamp) marks₀ → marks ≡ stamped (at .stamp) positions marks₀
-      → Stands r s rows (at .stamp) marks₀ marks₁ (o positions)
+  pub stamp-room : length stamps₁ ≡ limits .merged
+  pub within : StepOk at r
+  pub stands : (stamps₀ positions : List ℕ) → StampsBelow (at .stamp) stamps₀ → stamps ≡ stamped (at .stamp) positions stamps₀
+      → AtState r s rows (at .stamp) stamps₀ stamps₁ (o positions)
 
 -- what a step asks for: the lent arrays have their sizes, the state is within its limits, and the table is as late as its slack allows
-pub record Ready (at : Progress) (s rows marks firsts : List ℕ) : Type 0 where
+pub record StepReady (at : Progress) (s rows stamps buckets : List ℕ) : Type 0 where
   pub row-room : length rows ≡ limits .merged
-  pub mark-room : length marks ≡ limits .merged
+  pub stamp-room : length stamps ≡ limits .merged
   pub fits : Fits at
-  pub known : NoLater (at .slack) firsts (glyphsIn s rows (at .count))
+  pub known : LowerBounds (at .slack) buckets (glyphsIn s rows (at .count))
 
 -- the glyph g replaces the first of its byte index, whatever span covers it
 abbrev pub FirstReplaced : Progress → Step → List ℕ → List ℕ → List ℕ → List ℕ → List ℕ → Glyph → Type 0
-FirstReplaced at r s rows rows₁ marks marks₁ g =
+FirstReplaced at r s rows rows₁ stamps stamps₁ g =
     (span : Span) → spanContains span (g .index) ≡ true
-    → Stepped at r s rows₁ marks marks₁ (λ positions. replaceFirst span g (mergingAt at s rows positions))
+    → Stepped at r s rows₁ stamps stamps₁ (λ positions. replaceFirst span g (mergingAt at s rows positions))
 
--- what a span's merge asks for: the lent arrays have their sizes, the marks are of earlier spans, and the list is within its limit
-pub record Begun (rows marks : List ℕ) (stamp count : ℕ) : Type 0 where
+-- what a span's merge asks for: the lent arrays have their sizes, the stamps are of earlier spans, and the list is within its limit
+pub record SpanReady (rows stamps : List ℕ) (stamp count : ℕ) : Type 0 where
   pub row-room : length rows ≡ limits .merged
-  pub mark-room : length marks ≡ limits .merged
-  pub earlier : Below stamp marks
+  pub stamp-room : length stamps ≡ limits .merged
+  pub earlier : StampsBelow stamp stamps
   pub few : count ≤ limits .merged
 
 -- the span's own glyphs are few, and stand within the record
@@ -91,15 +91,15 @@ pub record OwnFew (own : GlyphRows) : Type 0 where
   pub few : own .count ≤ limits .glyphs
   pub inside : own .first ≤ 2_000_000
 
--- What it leaves: the lent arrays with their sizes, and the merge that o says. Where that is not refused, the marks have got the span's stamp
+-- What it leaves: the lent arrays with their sizes, and the merge that o says. Where that is not refused, the stamps have got the span's stamp
 -- at `places`.
-pub record Ended (r : Merge) (s rows marks marks₁ : List ℕ) (stamp : ℕ) (places : List ℕ) (o : Outcome (List Glyph)) : Type 0 where
+pub record SpanMerged (r : Merge) (s rows stamps stamps₁ : List ℕ) (stamp : ℕ) (places : List ℕ) (o : Outcome (List Glyph)) : Type 0 where
   pub row-room : length rows ≡ limits .merged
-  pub mark-room : length marks₁ ≡ limits .merged
-  pub marked : IfGiven (λ (gs : List Glyph). marks₁ ≡ stamped stamp places marks) o
-  pub held : Held r
+  pub stamp-room : length stamps₁ ≡ limits .merged
+  pub marked : IfGiven (λ (gs : List Glyph). stamps₁ ≡ stamped stamp places stamps) o
+  pub held : CountOk r
   pub is : mergedOf r s rows ≡ o
 
 -- the same of a span whose glyphs are merged into a list that is not empty
 abbrev pub SpanEnded : Merge → List ℕ → List ℕ → List ℕ → List ℕ → ℕ → Outcome Merging → Type 0
-SpanEnded r s rows marks marks₁ stamp o = Ended r s rows marks marks₁ stamp (placesIn o) (mergeDone o)
+SpanEnded r s rows stamps stamps₁ stamp o = SpanMerged r s rows stamps stamps₁ stamp (placesIn o) (mergeDone o)

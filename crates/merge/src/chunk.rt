@@ -1,11 +1,11 @@
 // The merge of a chunk: span by span into one list, whose rows the caller lends.
 use crate::Merge;
-use crate::firsts::BUCKET;
-use crate::firsts::follow_step;
-use crate::firsts::put_firsts;
-use crate::firsts::renew_firsts;
 use crate::glyph::GLYPH_STEP;
 use crate::glyph::index_at;
+use crate::index::BUCKET;
+use crate::index::build_index;
+use crate::index::follow_step;
+use crate::index::renew_index;
 use crate::moves::list_rows;
 use crate::step::Progress;
 use crate::step::Step;
@@ -14,21 +14,21 @@ use job_rows::rows::span_at;
 use job_rows::sizes::GLYPH_COUNT_BYTES;
 use job_rows::sizes::glyph_count;
 use job_rows::sizes::glyphs_at;
-use labels::Job;
-use labels::Span;
-use wire::place::cut;
-use wire::place::from;
+use spec::Job;
+use spec::Span;
+use wire::slice::clamp;
+use wire::slice::tail;
 ghost use mathlib.Core.Path.{_≡_};
 ghost use Prim.Native.Nat.{_+_, _≤_, _<_};
 ghost use lib.ListN.{length, drop};
-ghost use Rattle.labels.specs.Outcome.{given};
-ghost use Rattle.labels.specs.Bytes.{rows as records};
-ghost use Rattle.labels.specs.Decode.{glyphOf, glyphBytes, partsOf};
-ghost use Rattle.labels.specs.Merge.{mergeSpan, mergeGlyphs};
+ghost use Rattle.spec.specs.Outcome.{given};
+ghost use Rattle.spec.specs.Bytes.{rows as records};
+ghost use Rattle.spec.specs.Decode.{glyphOf, glyphBytes, partsOf};
+ghost use Rattle.spec.specs.Merge.{mergeSpan, mergeGlyphs};
 ghost use Rattle.job_rows.specs.Rows.{partsIn};
-ghost use Rattle.merge.specs.Merged.{glyphsIn, mergedOf, mergedInto, spanPlaces, Held, FewGlyphs, Mergeable};
-ghost use Rattle.merge.specs.Firsts.{NoLater};
-ghost use Rattle.merge.specs.Steps.{Begun, OwnFew, Ended, SpanEnded};
+ghost use Rattle.merge.specs.Merged.{glyphsIn, mergedOf, mergedInto, replacedPlaces, CountOk, FewGlyphs, Mergeable};
+ghost use Rattle.merge.specs.Buckets.{LowerBounds};
+ghost use Rattle.merge.specs.Steps.{SpanReady, OwnFew, SpanMerged, SpanEnded};
 
 // The entries of a table of first places for the longest text.
 const BUCKETS: usize = Job::TEXT / BUCKET;
@@ -37,20 +37,20 @@ const BUCKETS: usize = Job::TEXT / BUCKET;
 const FEW: usize = 16;
 
 // The span's own glyphs are merged into a list that is not empty. A place that is replaced gets the span's stamp as its
-// mark. The marks that earlier spans left are less, so that they need not be cleared.
+// mark. The stamps that earlier spans left are less, so that they need not be cleared.
 // A glyph that takes the place of another has its byte index, so the table of first places stays right while the count does not change.
 fn merge_glyphs(
     s: &[u8],
     span: Span,
     rows: &mut [u32; 1024],
-    marks: &mut [u8; 1024],
-    firsts: &mut [u16],
+    stamps: &mut [u8; 1024],
+    buckets: &mut [u16],
     stamp: u8,
     count: usize,
     own: GlyphRows,
 ) -> Merge
-    requires { ⌜ Begun (now rows) (now marks) stamp count × OwnFew own × NoLater 0 (now firsts) (glyphsIn (now s) (now rows) count) ⌝ }
-    ensures { λ r. ⌜ SpanEnded r (now (s .entry)) (now (rows .exit)) (now (marks .entry)) (now (marks .exit)) stamp
+    requires { ⌜ SpanReady (now rows) (now stamps) stamp count × OwnFew own × LowerBounds 0 (now buckets) (glyphsIn (now s) (now rows) count) ⌝ }
+    ensures { λ r. ⌜ SpanEnded r (now (s .entry)) (now (rows .exit)) (now (stamps .entry)) (now (stamps .exit)) stamp
         (mergedInto (glyphsIn (now (s .entry)) (now (rows .entry)) count) span (now (s .entry)) (own .first) (own .count)) ⌝ }
 {
     let mut at = Progress {
@@ -63,10 +63,10 @@ fn merge_glyphs(
     let mut row = own.first;
     let mut left = own.count;
     while 0 < left {
-        match merge_glyph(s, span, rows, marks, firsts, at, row) {
+        match merge_glyph(s, span, rows, stamps, buckets, at, row) {
             Step::Going(next) => {
                 let slack = follow_step(
-                    firsts,
+                    buckets,
                     at.count,
                     next.count,
                     index_at(s, row),
@@ -74,7 +74,7 @@ fn merge_glyphs(
                     at.slack,
                 );
                 at = next;
-                at.slack = renew_firsts(s, rows, next.count, firsts, slack);
+                at.slack = renew_index(s, rows, next.count, buckets, slack);
             }
             Step::Halted(k) => return Merge::Refused(k),
         }
@@ -89,18 +89,18 @@ fn merge_many(
     s: &[u8],
     span: Span,
     rows: &mut [u32; 1024],
-    marks: &mut [u8; 1024],
+    stamps: &mut [u8; 1024],
     stamp: u8,
     count: usize,
     own: GlyphRows,
 ) -> Merge
-    requires { ⌜ Begun (now rows) (now marks) stamp count × OwnFew own ⌝ }
-    ensures { λ r. ⌜ SpanEnded r (now (s .entry)) (now (rows .exit)) (now (marks .entry)) (now (marks .exit)) stamp
+    requires { ⌜ SpanReady (now rows) (now stamps) stamp count × OwnFew own ⌝ }
+    ensures { λ r. ⌜ SpanEnded r (now (s .entry)) (now (rows .exit)) (now (stamps .entry)) (now (stamps .exit)) stamp
         (mergedInto (glyphsIn (now (s .entry)) (now (rows .entry)) count) span (now (s .entry)) (own .first) (own .count)) ⌝ }
 {
-    let mut firsts = [0u16; BUCKETS];
-    put_firsts(s, rows, count, &mut firsts);
-    merge_glyphs(s, span, rows, marks, &mut firsts, stamp, count, own)
+    let mut buckets = [0u16; BUCKETS];
+    build_index(s, rows, count, &mut buckets);
+    merge_glyphs(s, span, rows, stamps, &mut buckets, stamp, count, own)
 }
 
 // The glyph rows of a span: the place of the first, and how many there are.
@@ -115,8 +115,8 @@ fn glyph_rows(s: &[u8], at: usize) -> GlyphRows
     ensures { λ r. ⌜ (r .first ≤ 2_000_000)
         × (records (λ b. glyphBytes) glyphOf (r .count) (drop (r .first) (now (s .entry))) ≡ partsOf (drop at (now (s .entry))) .glyphs) ⌝ }
 {
-    let span = from(s, at);
-    let first = (cut(s, at) + glyphs_at(span) + GLYPH_COUNT_BYTES) as u32;
+    let span = tail(s, at);
+    let first = (clamp(s, at) + glyphs_at(span) + GLYPH_COUNT_BYTES) as u32;
     GlyphRows {
         first,
         count: glyph_count(span),
@@ -140,13 +140,13 @@ pub fn merge_span(
     s: &[u8],
     at: usize,
     rows: &mut [u32; 1024],
-    marks: &mut [u8; 1024],
+    stamps: &mut [u8; 1024],
     stamp: u8,
     count: usize,
 ) -> Merge
-    requires { ⌜ (length (now s) ≤ 1_048_576) × FewGlyphs (partsOf (drop at (now s))) × Begun (now rows) (now marks) stamp count ⌝ }
-    ensures { λ r. ⌜ Ended r (now (s .entry)) (now (rows .exit)) (now (marks .entry)) (now (marks .exit)) stamp
-        (spanPlaces (glyphsIn (now (s .entry)) (now (rows .entry)) count) (partsOf (drop at (now (s .entry)))))
+    requires { ⌜ (length (now s) ≤ 1_048_576) × FewGlyphs (partsOf (drop at (now s))) × SpanReady (now rows) (now stamps) stamp count ⌝ }
+    ensures { λ r. ⌜ SpanMerged r (now (s .entry)) (now (rows .exit)) (now (stamps .entry)) (now (stamps .exit)) stamp
+        (replacedPlaces (glyphsIn (now (s .entry)) (now (rows .entry)) count) (partsOf (drop at (now (s .entry)))))
         (mergeSpan (given (glyphsIn (now (s .entry)) (now (rows .entry)) count)) (partsOf (drop at (now (s .entry))))) ⌝ }
 {
     let own = glyph_rows(s, at);
@@ -156,25 +156,25 @@ pub fn merge_span(
     let span = span_at(s, at);
     if (own.count <= FEW) | (count <= FEW) {
         let mut none = [0u16; 1];
-        return merge_glyphs(s, span, rows, marks, &mut none[..0], stamp, count, own);
+        return merge_glyphs(s, span, rows, stamps, &mut none[..0], stamp, count, own);
     }
-    merge_many(s, span, rows, marks, stamp, count, own)
+    merge_many(s, span, rows, stamps, stamp, count, own)
 }
 
-// The glyphs of the spans that stand at the places `spans`, merged span by span into one list: its rows are the first of `rows`. The marks are cleared
+// The glyphs of the spans that stand at the places `spans`, merged span by span into one list: its rows are the first of `rows`. The stamps are cleared
 // once; a span's stamp is its number, from 1 on.
 pub fn process_chunk(s: &[u8], spans: &[usize], rows: &mut [u32; 1024]) -> Merge
     requires { ⌜ Mergeable (now s) (now spans) (now rows) ⌝ }
     ensures { λ r. ⌜ (length (now (rows .exit)) ≡ 1024)
-        × Held r
+        × CountOk r
         × (mergedOf r (now (s .entry)) (now (rows .exit)) ≡ mergeGlyphs (partsIn (now (s .entry)) (now (spans .entry)))) ⌝ }
 {
-    let mut marks = [0u8; 1024];
+    let mut stamps = [0u8; 1024];
     let mut count: usize = 0;
     let mut i: usize = 0;
     while i < spans.len() {
         let stamp = (i + 1) as u8;
-        match merge_span(s, spans[i], rows, &mut marks, stamp, count) {
+        match merge_span(s, spans[i], rows, &mut stamps, stamp, count) {
             Merge::Merged(n) => count = n,
             Merge::Refused(k) => return Merge::Refused(k),
         }

@@ -7,7 +7,7 @@ use wire::read::u16_at;
 ghost use mathlib.Core.Path.{_≡_};
 ghost use Prim.Native.Nat.{_<_};
 ghost use lib.ListN.{drop};
-ghost use Rattle.labels.specs.Decode.{glyphOf};
+ghost use Rattle.spec.specs.Decode.{glyphOf};
 
 // How far it is from one glyph row to the next.
 pub const GLYPH_STEP: u32 = GLYPH_BYTES as u32;

@@ -1,7 +1,7 @@
 // Step 1: the glyph lists of a chunk's spans merged into one, or refused with 7 or 8.
 pub mod chunk;
-pub mod firsts;
 pub mod glyph;
+pub mod index;
 pub mod moves;
 pub mod search;
 pub mod source;

@@ -5,9 +5,9 @@ ghost use mathlib.Core.Path.{_≡_};
 ghost use mathlib.Core.List.{List};
 ghost use Prim.Native.Nat.{ℕ, _+_, _-_, _≤_, _<_};
 ghost use lib.ListN.{length, drop, set};
-ghost use Rattle.labels.specs.Bytes.{rows as records};
-ghost use Rattle.labels.specs.Decode.{glyphOf, glyphBytes};
-ghost use Rattle.labels.specs.Merge.{inserted, removed};
+ghost use Rattle.spec.specs.Bytes.{rows as records};
+ghost use Rattle.spec.specs.Decode.{glyphOf, glyphBytes};
+ghost use Rattle.spec.specs.Merge.{inserted, removed};
 ghost use Rattle.merge.specs.Merged.{glyphsIn};
 
 // The list is the `n` glyphs that stand one after the other from `first` on.

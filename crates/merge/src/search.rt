@@ -3,7 +3,7 @@ use crate::glyph::index_at;
 ghost use mathlib.Core.Path.{_≡_};
 ghost use Prim.Native.Nat.{_≤_};
 ghost use lib.ListN.{length};
-ghost use Rattle.labels.specs.Merge.{placeOf};
+ghost use Rattle.spec.specs.Merge.{placeOf};
 ghost use Rattle.merge.specs.Merged.{glyphsIn};
 
 // The place of the first glyph of byte index `index`; the count where there is none. No glyph before place `from` has that index.

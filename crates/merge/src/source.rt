@@ -1,12 +1,12 @@
 // Which spans of a chunk have glyphs. Where only one of them has, there is nothing to be merged: its own glyphs are the merged list.
 use crate::chunk::list_span;
 use job_rows::sizes::glyph_count;
-use wire::place::from;
+use wire::slice::tail;
 ghost use mathlib.Core.Path.{_≡_};
 ghost use Prim.Native.Nat.{_≤_};
 ghost use lib.ListN.{length};
 ghost use Rattle.job_rows.specs.Rows.{partsIn};
-ghost use Rattle.labels.specs.Job.{limits};
+ghost use Rattle.spec.specs.Job.{limits};
 ghost use Rattle.merge.specs.Merged.{glyphsIn};
 ghost use Rattle.merge.specs.Source.{glyphSpan, spanGlyphs};
 
@@ -16,7 +16,7 @@ pub fn glyph_span(s: &[u8], spans: &[usize], k: usize) -> usize
 {
     let mut i = k;
     while i < spans.len() {
-        if 0 < glyph_count(from(s, spans[i])) {
+        if 0 < glyph_count(tail(s, spans[i])) {
             return i;
         }
         i += 1;
@@ -29,7 +29,7 @@ pub fn own_count(s: &[u8], spans: &[usize], k: usize) -> usize
     ensures { λ r. ⌜ r ≡ length (spanGlyphs (partsIn (now (s .entry)) (now (spans .entry))) k) ⌝ }
 {
     if k < spans.len() {
-        return glyph_count(from(s, spans[k]));
+        return glyph_count(tail(s, spans[k]));
     }
     0
 }

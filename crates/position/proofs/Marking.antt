@@ -9,16 +9,16 @@ use lib.ListN.{length, getD, set, take, length-take}
 use lib.Seq.{getD-take, take-set-lt, map-set-same}
 use lib.Ieee.{Float, ne}
 use Rattle.job_rows.proofs.ByNumber.{map-in}
-use Rattle.labels.specs.declared.Cluster.{Cluster}
-use Rattle.labels.specs.Lists.{scan}
-use Rattle.labels.specs.Single.{+0, isZero}
-use Rattle.labels.specs.Job.{Job}
-use Rattle.labels.specs.Position.{characterNumber, markedBy, marked, markRelativeShifts}
-use Rattle.labels.specs.ClusterParts.{withMarks}
-use Rattle.clusters.specs.Clusters.{clusterOf, clustersOf, indexesIn}
-use Rattle.clusters.proofs.Rows.{clusters-length, clusters-at}
-use Rattle.clusters.proofs.Turns.{stored}
-use Rattle.position.specs.Given.{Numbered}
+use Rattle.spec.specs.declared.Cluster.{Cluster}
+use Rattle.spec.specs.Lists.{scan}
+use Rattle.spec.specs.Single.{+0, isZero}
+use Rattle.spec.specs.Job.{Job}
+use Rattle.spec.specs.Position.{characterNumber, markedBy, marked, markRelativeShifts}
+use Rattle.spec.specs.ClusterParts.{withMarks}
+use Rattle.cluster_table.specs.Clusters.{clusterOf, clustersOf, indexesIn}
+use Rattle.cluster_table.proofs.Rows.{clusters-length, clusters-at}
+use Rattle.cluster_table.proofs.LoopSteps.{stored}
+use Rattle.position.specs.Given.{CharacterNumbersOf}
 use Rattle.position.proofs.TextOrder.{number-at}
 
 -- ---- one cluster
@@ -80,10 +80,10 @@ module _ (job : Job) (text : List ℕ) (offset : ℕ) where
 
   -- the angle of row i, the rows having kept their byte indexes
   pub angle-at : (rotate : List Float) (numbers : List ℕ) (words₀ words : List (List ℕ)) (n i k : ℕ) (angle : Float) (index : ℕ)
-      → job .rotate ≡ rotate → Numbered text offset numbers words₀ n → indexesIn words n ≡ indexesIn words₀ n → i < n → n ≤ length words
+      → job .rotate ≡ rotate → CharacterNumbersOf text offset numbers words₀ n → indexesIn words n ≡ indexesIn words₀ n → i < n → n ≤ length words
       → k ≡ getD numbers i 0 → angle ≡ getD rotate k +0 → index ≡ getD (getD words i []) 0 0
       → getD (job .rotate) (characterNumber text offset index) +0 ≡ angle
   angle-at rotate numbers words₀ words n i k angle index er en ei h q ek ea e =
-      let en₁ : Numbered text offset numbers words n = rw ei en in
+      let en₁ : CharacterNumbersOf text offset numbers words n = rw ei en in
       let number : k ≡ characterNumber text offset index = ek ∙ number-at text offset numbers words n i en₁ h q ∙ ap (characterNumber text offset) (index-at words n i h q ∙ sym e) in
       rw (ea, er, number)

@@ -6,16 +6,16 @@ use native.Mathlib.Omega.{arith}
 use lib.Seq.{drop-set-lt}
 use lib.ListN.{length, getD, set, drop, drop-of-length-le}
 use lib.Ieee.{Float}
-use Rattle.labels.specs.declared.Cluster.{Cluster}
-use Rattle.labels.specs.Lists.{modify}
-use Rattle.labels.specs.Single.{_+ᶠ_, +0}
-use Rattle.labels.specs.Job.{Job}
-use Rattle.labels.specs.Position.{Entry, Shifting, logicalOrder, characterNumber, shiftNext, resolveRelativeShifts}
-use Rattle.labels.specs.Cluster.{rounded}
-use Rattle.clusters.specs.Clusters.{clusterOf, floatsOf, clustersOf, indexesIn}
-use Rattle.clusters.proofs.Rows.{line-back, clusters-indexes, clusters-floats}
-use Rattle.clusters.proofs.Turns.{stored, floats-turn, folded, fold-turn, floats-modify}
-use Rattle.position.specs.Given.{Numbered}
+use Rattle.spec.specs.declared.Cluster.{Cluster}
+use Rattle.spec.specs.Lists.{modify}
+use Rattle.spec.specs.Single.{_+ᶠ_, +0}
+use Rattle.spec.specs.Job.{Job}
+use Rattle.spec.specs.Position.{Entry, Shifting, logicalOrder, characterNumber, shiftNext, resolveRelativeShifts}
+use Rattle.spec.specs.Cluster.{rounded}
+use Rattle.cluster_table.specs.Clusters.{clusterOf, floatsOf, clustersOf, indexesIn}
+use Rattle.cluster_table.proofs.Rows.{line-back, clusters-indexes, clusters-floats}
+use Rattle.cluster_table.proofs.LoopSteps.{stored, floats-turn, folded, fold-turn, floats-modify}
+use Rattle.position.specs.Given.{CharacterNumbersOf}
 use Rattle.position.proofs.TextOrder.{EntryAt, place-inside, number-at}
 
 -- ---- a stage that sets each cluster's shift
@@ -64,7 +64,7 @@ module _ (job : Job) (text : List ℕ) (offset : ℕ) (words : List (List ℕ)) 
 
   -- c is the cluster whose turn it is, d that cluster with the new sums, k the number of its character
   pub shift-turn : {keys : List ℕ} (numbers : List ℕ) (x y : Float) (floats : List (List Float)) (i : ℕ) {floats′ : List (List Float)} (x′ y′ : Float) (place k : ℕ) (c d : Cluster)
-      → EntryAt keys words n i → Numbered text offset numbers words n → n ≤ length floats → n ≤ length words
+      → EntryAt keys words n i → CharacterNumbersOf text offset numbers words n → n ≤ length floats → n ≤ length words
       → place ≡ getD keys i 0 % 65536 → k ≡ getD numbers place 0 → x′ ≡ x +ᶠ getD (job .dx) k +0 → y′ ≡ y +ᶠ getD (job .dy) k +0
       → c ≡ clusterOf (getD floats place []) (getD words place []) → d ≡ rounded .withShift x′ y′ c → floats′ ≡ set floats place (floatsOf d)
       → shifted x′ y′ floats′ (i + 1) ≡ shifted x y floats i

@@ -7,15 +7,15 @@ use mathlib.Core.List.{List, [], _∷_, _++_, foldl}
 use lib.ListN.{length, getD, take, drop, length-append, length-map, take-append-drop, drop-of-length-le}
 use lib.Seq.{append-snoc, drop-cons, getD-at, getD-take, length-take-le}
 use lib.Dec.{leb}
-use Rattle.laws.proofs.All.{first, all-drop, all-weaken, cond-keeps}
-use Rattle.labels.specs.Lists.{All}
+use Rattle.spec_laws.proofs.All.{first, all-drop, all-weaken, cond-keeps}
+use Rattle.spec.specs.Lists.{All}
 use Rattle.job_rows.proofs.ByNumber.{map-in}
-use Rattle.labels.specs.Position.{Entry, entries, insert, logicalOrder, firstPlace, lastPlace, characterNumber}
-use Rattle.clusters.specs.Clusters.{indexesIn}
+use Rattle.spec.specs.Position.{Entry, entries, insert, logicalOrder, firstPlace, lastPlace, characterNumber}
+use Rattle.cluster_table.specs.Clusters.{indexesIn}
 use Rattle.text_order.specs.Keys.{keyOf}
 use Rattle.text_order.specs.Ordered.{Ordered}
 use Rattle.text_order.proofs.Keys.{indexes-length}
-use Rattle.position.specs.Given.{Numbered}
+use Rattle.position.specs.Given.{CharacterNumbersOf}
 
 -- ---- each entry of the order stands for a byte index of the list
 
@@ -128,7 +128,7 @@ module _ {order : List ℕ} {words : List (List ℕ)} {n : ℕ} where
       ap lastPlace whole ∙ last-of 0 (take i es) (e .entry) ∙ sym (e .place)
 
 -- ---- the number of a cluster's character
-pub number-at : (text : List ℕ) (offset : ℕ) (numbers : List ℕ) (words : List (List ℕ)) (n k : ℕ) → Numbered text offset numbers words n → k < n → n ≤ length words
+pub number-at : (text : List ℕ) (offset : ℕ) (numbers : List ℕ) (words : List (List ℕ)) (n k : ℕ) → CharacterNumbersOf text offset numbers words n → k < n → n ≤ length words
     → getD numbers k 0 ≡ characterNumber text offset (getD (indexesIn words n) k 0)
 number-at text offset numbers words n k e h q =
     sym (getD-take n numbers k 0 h) ∙ ap (λ (l : List ℕ). getD l k 0) e ∙ map-in (characterNumber text offset) (indexesIn words n) k 0 0 (rw (indexes-length words n q) h)

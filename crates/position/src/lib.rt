@@ -1,8 +1,8 @@
 // Step 7: the clusters along the line (the Rust's `resolve_clusters_positions_horizontal`).
 pub mod line;
-pub mod marks;
+pub mod line_extent;
 pub mod order;
-pub mod reach;
+pub mod relative;
 pub mod shifts;
 
 // How far the clusters reach to the left and to the right, and their advances together.

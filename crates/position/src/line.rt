@@ -1,25 +1,25 @@
 // The clusters placed along the line.
 use crate::Positioned;
-use crate::marks::mark_relative_shifts;
+use crate::line_extent::extent_of;
 use crate::order::place_at;
-use crate::reach::extent_of;
+use crate::relative::mark_relative_shifts;
 use crate::shifts::resolve_relative_shifts;
-use crate::shifts::turn_shifts;
+use crate::shifts::rotate_shifts;
 use crate::shifts::with_shift;
-use clusters::cluster_at;
-use clusters::put_floats;
-use labels::Cluster;
-use labels::Job;
+use cluster_table::cluster_at;
+use cluster_table::put_floats;
+use spec::Cluster;
+use spec::Job;
 ghost use mathlib.Core.Path.{_≡_};
 ghost use mathlib.Core.List.{foldl};
 ghost use Prim.Native.Nat.{_≤_, _<_};
 ghost use lib.ListN.{length};
-ghost use Rattle.labels.specs.Position.{processAnchor, pastAdvance, placedFrom, positioned};
-ghost use Rattle.labels.specs.Cluster.{rounded};
-ghost use Rattle.clusters.specs.Clusters.{clustersOf};
+ghost use Rattle.spec.specs.Position.{processAnchor, pastAdvance, placedFrom, positioned};
+ghost use Rattle.spec.specs.Cluster.{rounded};
+ghost use Rattle.cluster_table.specs.Clusters.{clustersOf};
 ghost use Rattle.job_rows.specs.Rows.{jobAt};
 ghost use Rattle.text_order.specs.Ordered.{Ordered};
-ghost use Rattle.position.specs.Given.{Ended, Placeable, Placed, PlacedChunk};
+ghost use Rattle.position.specs.Given.{EndsKnown, Placeable, Placed, PlacedChunk};
 
 pub fn process_anchor(anchor: u8, width: f32) -> f32
     ensures { λ r. ⌜ r ≡ processAnchor rounded anchor width ⌝ }
@@ -59,7 +59,7 @@ pub fn positioned_between(
     words: &[[u32; 6]],
     n: usize,
 ) -> Positioned
-    requires { ⌜ Ended first last (now floats) (now words) n ⌝ }
+    requires { ⌜ EndsKnown first last (now floats) (now words) n ⌝ }
     ensures { λ r. ⌜ Placed (positioned rounded anchor (clustersOf (now (floats .entry)) (now (words .entry)) n))
         (clustersOf (now (floats .exit)) (now (words .entry)) n) r ⌝ }
 {
@@ -110,7 +110,7 @@ pub fn resolve_clusters_positions_horizontal(
         (clustersOf (now (floats .exit)) (now (words .exit)) n) r ⌝ }
 {
     resolve_relative_shifts(s, job, order, numbers, floats, words, n);
-    turn_shifts(job.mode, floats, words, n);
+    rotate_shifts(job.mode, floats, words, n);
     mark_relative_shifts(s, job, numbers, floats, words, n);
     positioned(anchor, order, floats, words, n)
 }

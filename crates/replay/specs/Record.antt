@@ -2,7 +2,7 @@
 use Prim.Native.Nat.{ℕ, _+_}
 use mathlib.Core.List.{List}
 use lib.ListN.{take, drop}
-use Rattle.labels.specs.Bytes.{be}
+use Rattle.spec.specs.Bytes.{be}
 
 unfoldable pub lentOf : List ℕ → ℕ
 lentOf bs = be 4 bs

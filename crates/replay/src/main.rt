@@ -6,16 +6,16 @@ mod same;
 use layout::Answered;
 use layout::layout_text;
 use libc::STDOUT_FILENO;
-use wire::place::after;
-use wire::place::from;
-use wire::place::part;
 use wire::read::u32_at;
+use wire::slice::offset_after;
+use wire::slice::tail;
+use wire::slice::window;
 ghost use Prim.Native.Nat.{ℕ, _≤_};
 ghost use mathlib.Core.Path.{_≡_};
 ghost use mathlib.Core.Bool.{_&&_};
 ghost use lib.Dec.{eqb};
 ghost use lib.ListN.{length, take, drop};
-ghost use Rattle.labels.specs.Lists.{all};
+ghost use Rattle.spec.specs.Lists.{all};
 ghost use Rattle.replay.specs.Same.{same};
 
 // Of a longer file no more is read: a record that is cut off differs.
@@ -35,7 +35,7 @@ fn holds(buffer: &[u8], answer: &[u8]) -> bool
         && all (λ (x : ℕ). eqb x 0xa5) (drop (length (now (answer .entry))) (now (buffer .entry))) ⌝ }
 {
     let n = answer.len();
-    same::same_bytes(part(buffer, 0, n), answer) & same::all_are(from(buffer, n), PATTERN)
+    same::same_bytes(window(buffer, 0, n), answer) & same::all_are(tail(buffer, n), PATTERN)
 }
 
 // The call, lent the buffer's first `lent` bytes.
@@ -70,12 +70,12 @@ fn replay_records(file: &[u8]) {
     let mut at = FIRST_AT;
     let mut agree: usize = 0;
     for _ in 0..count {
-        let record = from(file, at);
+        let record = tail(file, at);
         let size = record::size(record);
         if (size <= record.len()) & agrees(record) {
             agree += 1;
         }
-        at = after(file, at, size);
+        at = offset_after(file, at, size);
     }
     show_counts(agree, count - agree);
 }

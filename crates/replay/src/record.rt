@@ -1,7 +1,7 @@
 // The fields of the stored record that a row starts with. A byte past the end counts as 0, and what is cut off is shorter.
-use wire::place::part;
 use wire::read::u8_at;
 use wire::read::u32_at;
+use wire::slice::window;
 ghost use mathlib.Core.Path.{_≡_};
 ghost use Prim.Native.Nat.{_<_};
 ghost use Rattle.replay.specs.Record.{lentOf, numberOf, jobOf, answerAt, answerOf, sizeOf};
@@ -33,7 +33,7 @@ pub fn number(row: &[u8]) -> u8
 pub fn job(row: &[u8]) -> &[u8]
     ensures { λ r. ⌜ now r ≡ jobOf (now (row .entry)) ⌝ }
 {
-    part(row, JOB_AT, u32_at(row, JOB_LENGTH_AT) as usize)
+    window(row, JOB_AT, u32_at(row, JOB_LENGTH_AT) as usize)
 }
 
 // Where the answer's length stands.
@@ -47,7 +47,7 @@ pub fn answer(row: &[u8]) -> &[u8]
     ensures { λ r. ⌜ now r ≡ answerOf (now (row .entry)) ⌝ }
 {
     let at = answer_at(row);
-    part(row, at + LENGTH_BYTES, u32_at(row, at) as usize)
+    window(row, at + LENGTH_BYTES, u32_at(row, at) as usize)
 }
 
 // How many bytes it has.

@@ -4,7 +4,7 @@ ghost use Prim.Native.Nat.{ℕ};
 ghost use mathlib.Core.Path.{_≡_};
 ghost use mathlib.Core.Bool.{_&&_};
 ghost use lib.Dec.{eqb};
-ghost use Rattle.labels.specs.Lists.{all};
+ghost use Rattle.spec.specs.Lists.{all};
 ghost use Rattle.layout.specs.Returned.{returnedNumber, returnedLength};
 ghost use Rattle.replay.specs.Same.{same};
 

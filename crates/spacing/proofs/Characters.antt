@@ -4,7 +4,7 @@ use mathlib.Core.Path.{_≡_}
 use mathlib.Core.List.{List}
 use lib.ListN.{getD}
 use borrow.Author.Tests.{lt-ltb, le-ltb}
-use Rattle.labels.specs.Utf8.{codePoint}
+use Rattle.spec.specs.Utf8.{codePoint}
 
 module _ (bs : List ℕ) {a : ℕ} (ea : a ≡ getD bs 0 0) where
   pub one-byte : a < 0x80 → a ≡ codePoint bs

@@ -6,25 +6,25 @@ use mathlib.Core.List.{List, []}
 use lib.ListN.{length, getD, set}
 use lib.Dec.{eqb}
 use lib.Ieee.{Float}
-use Rattle.labels.specs.declared.Span.{Span}
-use Rattle.labels.specs.declared.Cluster.{Cluster}
-use Rattle.labels.specs.Single.{_+ᶠ_, isPositive}
-use Rattle.labels.specs.Job.{spanAt}
-use Rattle.labels.specs.Script.{scriptSupportsLetterSpacing}
-use Rattle.labels.specs.Cluster.{rounded}
-use Rattle.labels.specs.LetterSpacing.{settled, letterSpaced, nextLetterSpaced}
-use Rattle.laws.proofs.All.{cond-keeps}
-use Rattle.clusters.specs.Clusters.{clusterOf, floatsOf, wordsOf}
-use Rattle.clusters.proofs.Rows.{line-back}
-use Rattle.clusters.proofs.Turns.{stored, stage-turn, floats-turn}
+use Rattle.spec.specs.declared.Span.{Span}
+use Rattle.spec.specs.declared.Cluster.{Cluster}
+use Rattle.spec.specs.Single.{_+ᶠ_, isPositive}
+use Rattle.spec.specs.Job.{spanAt}
+use Rattle.spec.specs.Script.{scriptSupportsLetterSpacing}
+use Rattle.spec.specs.Cluster.{rounded}
+use Rattle.spec.specs.LetterSpacing.{collapseIfEmpty, letterSpaced, nextLetterSpaced}
+use Rattle.spec_laws.proofs.All.{cond-keeps}
+use Rattle.cluster_table.specs.Clusters.{clusterOf, floatsOf, wordsOf}
+use Rattle.cluster_table.proofs.Rows.{line-back}
+use Rattle.cluster_table.proofs.LoopSteps.{stored, stage-turn, floats-turn}
 
 module _ (spans : List Span) (left : ℕ) (c : Cluster) (f : List Float) (w : List ℕ) (e : c ≡ clusterOf f w) where
   -- the floats of d stand beside the words w, unless it has collapsed
   abbrev Beside : Cluster → Type 0
   Beside d = d .collapsed ≡ false → clusterOf (floatsOf d) w ≡ d
 
-  settles : (d : Cluster) → Beside d → Beside (settled rounded d)
-  unfolding settled
+  settles : (d : Cluster) → Beside d → Beside (collapseIfEmpty rounded d)
+  unfolding collapseIfEmpty
   settles d h = cond-keeps Beside (not (isPositive (d .advance))) (λ p. cc) h
 
   letter-back : Beside (nextLetterSpaced rounded spans left c)

@@ -7,22 +7,22 @@ use mathlib.Core.List.{List, [], _∷_, map}
 use lib.ListN.{length, length-map}
 use lib.Dec.{eqb}
 use lib.Ieee.{Float, neg}
-use Rattle.labels.specs.Lists.{scan, any}
-use Rattle.labels.specs.Single.{_+ᶠ_, _/ᶠ_, two, isZero, isPositive}
-use Rattle.labels.specs.declared.Span.{Span}
-use Rattle.labels.specs.declared.Cluster.{Cluster}
-use Rattle.labels.specs.Job.{spanAt, topToBottom}
-use Rattle.labels.specs.Script.{scriptSupportsLetterSpacing, isWordSeparatorAt}
-use Rattle.labels.specs.Kind.{Kind, indexes}
-use Rattle.labels.specs.ClusterParts.{withHeight, collapsed}
-use Rattle.labels.specs.Cluster.{rounded}
-use Rattle.labels.specs.WritingMode.{turned, applyWritingMode}
-use Rattle.labels.specs.LetterSpacing.{settled, letterSpaced, nextLetterSpaced, applyLetterSpacing}
-use Rattle.labels.specs.WordSpacing.{wordSpaced, applyWordSpacing}
-use Rattle.laws.proofs.All.{cond-keeps}
-use Rattle.laws.proofs.AsMany.{length-cond}
-use Rattle.clusters.specs.Clusters.{clusterOf, floatsOf}
-use Rattle.clusters.proofs.Rows.{line-back, height-back}
+use Rattle.spec.specs.Lists.{scan, any}
+use Rattle.spec.specs.Single.{_+ᶠ_, _/ᶠ_, two, isZero, isPositive}
+use Rattle.spec.specs.declared.Span.{Span}
+use Rattle.spec.specs.declared.Cluster.{Cluster}
+use Rattle.spec.specs.Job.{spanAt, topToBottom}
+use Rattle.spec.specs.Script.{scriptSupportsLetterSpacing, isWordSeparatorAt}
+use Rattle.spec.specs.Arithmetic.{Arithmetic, indexes}
+use Rattle.spec.specs.ClusterParts.{withHeight, collapsed}
+use Rattle.spec.specs.Cluster.{rounded}
+use Rattle.spec.specs.WritingMode.{verticalMetrics, applyWritingMode}
+use Rattle.spec.specs.LetterSpacing.{collapseIfEmpty, letterSpaced, nextLetterSpaced, applyLetterSpacing}
+use Rattle.spec.specs.WordSpacing.{wordSpaced, applyWordSpacing}
+use Rattle.spec_laws.proofs.All.{cond-keeps}
+use Rattle.spec_laws.proofs.AsMany.{length-cond}
+use Rattle.cluster_table.specs.Clusters.{clusterOf, floatsOf}
+use Rattle.cluster_table.proofs.Rows.{line-back, height-back}
 
 -- ---- the words of a row
 
@@ -31,8 +31,8 @@ module _ (c : Cluster) (f : List Float) (w : List ℕ) (e : c ≡ clusterOf f w)
   abbrev Beside : Cluster → Type 0
   Beside d = clusterOf (floatsOf d) w ≡ d
 
-  pub turned-back : Beside (turned c)
-  unfolding turned
+  pub turned-back : Beside (verticalMetrics c)
+  unfolding verticalMetrics
   turned-back =
       let nudge = (c .ascent +ᶠ c .descent) /ᶠ two in
       cond-keeps Beside (c .upright) (height-back (c .width /ᶠ two) (neg (c .width) /ᶠ two) nudge f w e) (height-back (c .ascent) (c .descent) nudge f w e)
@@ -67,15 +67,15 @@ module _ {B : Type 0} (g : Cluster → B) where
   -- what the heights have no part in
   pub writing-keeps : ((ascent descent nudge : Float) (c : Cluster) → g (withHeight ascent descent nudge c) ≡ g c)
       → (mode : ℕ) (cs : List Cluster) → map g (applyWritingMode mode cs) ≡ map g cs
-  unfolding applyWritingMode turned
+  unfolding applyWritingMode verticalMetrics
   writing-keeps h mode cs =
-      cond-kept (map g) (eqb mode topToBottom) (map turned cs) cs (map g cs)
-      (map-kept g turned (λ c. cond-kept g (c .upright) _ _ (g c) (h _ _ _ c) (h _ _ _ c)) cs) refl
+      cond-kept (map g) (eqb mode topToBottom) (map verticalMetrics cs) cs (map g cs)
+      (map-kept g verticalMetrics (λ c. cond-kept g (c .upright) _ _ (g c) (h _ _ _ c) (h _ _ _ c)) cs) refl
 
   module _ (advance : (a : Float) (c : Cluster) → g (rounded .withAdvance a c) ≡ g c) where
     module _ (h : (c : Cluster) → g (collapsed c) ≡ g c) (spans : List Span) where
-      settles : (c : Cluster) → g (settled rounded c) ≡ g c
-      unfolding settled
+      settles : (c : Cluster) → g (collapseIfEmpty rounded c) ≡ g c
+      unfolding collapseIfEmpty
       settles c = cond-kept g (not (isPositive (c .advance))) (collapsed c) c (g c) (h c) refl
 
       spaces : (letter : Float) (last : Bool) (c : Cluster) → g (letterSpaced rounded letter last c) ≡ g c
@@ -113,7 +113,7 @@ word-indexes = word-keeps (rounded .index) (λ a c. refl)
 
 -- ---- how many
 
-pub length-word : (K : Kind) (text : List ℕ) (spans : List Span) (cs : List (K .Cluster)) → length (applyWordSpacing K text spans cs) ≡ length cs
+pub length-word : (K : Arithmetic) (text : List ℕ) (spans : List Span) (cs : List (K .Cluster)) → length (applyWordSpacing K text spans cs) ≡ length cs
 unfolding applyWordSpacing
 length-word K text spans cs =
     length-cond (any (λ (s : Span). not (isZero (s .word))) spans) _ _ (length cs) (length-map cs (wordSpaced K text spans)) refl

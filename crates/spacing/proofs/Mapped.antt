@@ -4,10 +4,10 @@ use mathlib.Core.Path.{_≡_, refl}
 use mathlib.Core.List.{List, [], map}
 use lib.ListN.{length, getD, set}
 use lib.Ieee.{Float}
-use Rattle.labels.specs.declared.Cluster.{Cluster}
-use Rattle.clusters.specs.Clusters.{clusterOf, floatsOf, clustersOf}
-use Rattle.labels.proofs.Loops.{scan-map}
-use Rattle.clusters.proofs.Turns.{stored, floats-turn, stage-done}
+use Rattle.spec.specs.declared.Cluster.{Cluster}
+use Rattle.cluster_table.specs.Clusters.{clusterOf, floatsOf, clustersOf}
+use Rattle.spec.proofs.Loops.{scan-map}
+use Rattle.cluster_table.proofs.LoopSteps.{stored, floats-turn, stage-done}
 
 module _ (f : Cluster → Cluster) where
   -- what is done, then what is still to be done

@@ -1,6 +1,6 @@
 -- A span's letter or word spacing. Definitions only.
 use lib.Ieee.{Float}
-use Rattle.labels.specs.declared.Span.{Span}
+use Rattle.spec.specs.declared.Span.{Span}
 use Rattle.spacing.specs.declared.spans.Spacing.{Spacing}
 use Rattle.spacing.specs.declared.spans.Spacing.the-variants.{Letter, Word}
 

@@ -1,12 +1,12 @@
 // The character at a byte of a text in UTF-8, and whether it separates words.
-use wire::place::from;
 use wire::read::byte_at;
+use wire::slice::tail;
 ghost use mathlib.Core.Path.{_≡_};
 ghost use Prim.Native.Nat.{_<_, _%_};
 ghost use lib.ListN.{drop};
-ghost use Rattle.labels.specs.Lists.{among};
-ghost use Rattle.labels.specs.Utf8.{codePoint};
-ghost use Rattle.labels.specs.Script.{wordSeparators, isWordSeparatorAt};
+ghost use Rattle.spec.specs.Lists.{elem};
+ghost use Rattle.spec.specs.Utf8.{codePoint};
+ghost use Rattle.spec.specs.Script.{wordSeparators, isWordSeparatorAt};
 
 // The six low bits of a byte that continues a character.
 fn low(b: u8) -> u32
@@ -19,7 +19,7 @@ fn low(b: u8) -> u32
 pub fn code_point(text: &[u8], i: usize) -> u32
     ensures { λ r. ⌜ r ≡ codePoint (drop i (now (text .entry))) ⌝ }
 {
-    let bs = from(text, i);
+    let bs = tail(text, i);
     let a = byte_at(bs, 0) as u32;
     if a < 0x80 {
         return a;
@@ -38,7 +38,7 @@ pub fn code_point(text: &[u8], i: usize) -> u32
 
 // The separators of CSS Text 3.
 pub fn is_word_separator_characters(c: u32) -> bool
-    ensures { λ r. ⌜ r ≡ among c wordSeparators ⌝ }
+    ensures { λ r. ⌜ r ≡ elem c wordSeparators ⌝ }
 {
     (0x0020 == c)
         | (0x00a0 == c)

@@ -3,26 +3,26 @@ use crate::spans::Spacing;
 use crate::spans::any_spacing;
 use crate::spans::spaced;
 use crate::spans::spacing_in;
-use clusters::cluster_at;
-use clusters::put_cluster;
-use clusters::put_floats;
-use labels::Cluster;
-use labels::script_supports_letter_spacing;
+use cluster_table::cluster_at;
+use cluster_table::put_cluster;
+use cluster_table::put_floats;
+use spec::Cluster;
+use spec::script_supports_letter_spacing;
 ghost use mathlib.Core.Path.{_≡_};
 ghost use mathlib.Core.Bool.{cond};
 ghost use mathlib.Core.List.{List};
 ghost use Prim.Native.Nat.{_<_, _≤_};
 ghost use lib.ListN.{length, set};
-ghost use Rattle.labels.specs.declared.Span.{Span};
-ghost use Rattle.labels.specs.Job.{spanAt};
-ghost use Rattle.labels.specs.Cluster.{rounded};
-ghost use Rattle.labels.specs.LetterSpacing.{settled, letterSpaced, nextLetterSpaced, applyLetterSpacing};
+ghost use Rattle.spec.specs.declared.Span.{Span};
+ghost use Rattle.spec.specs.Job.{spanAt};
+ghost use Rattle.spec.specs.Cluster.{rounded};
+ghost use Rattle.spec.specs.LetterSpacing.{collapseIfEmpty, letterSpaced, nextLetterSpaced, applyLetterSpacing};
 ghost use Rattle.job_rows.specs.Rows.{spansIn};
-ghost use Rattle.clusters.specs.Clusters.{floatsOf, wordsOf, clustersOf};
+ghost use Rattle.cluster_table.specs.Clusters.{floatsOf, wordsOf, clustersOf};
 
 // A cluster whose advance is not above 0 loses its width, its advance and its glyphs.
-pub fn settled(c: Cluster) -> Cluster
-    ensures { λ r. ⌜ r ≡ settled rounded c ⌝ }
+pub fn collapse_if_empty(c: Cluster) -> Cluster
+    ensures { λ r. ⌜ r ≡ collapseIfEmpty rounded c ⌝ }
 {
     if 0.0 < c.advance {
         return c;
@@ -40,9 +40,9 @@ pub fn letter_spaced(letter: f32, last: bool, c: Cluster) -> Cluster
     ensures { λ r. ⌜ r ≡ letterSpaced rounded letter last c ⌝ }
 {
     if last {
-        return settled(c);
+        return collapse_if_empty(c);
     }
-    settled(spaced(c, letter))
+    collapse_if_empty(spaced(c, letter))
 }
 
 // The letter spacing of the span of place `span`. Neighbours nearly always have one span, so that it is kept.

@@ -1,17 +1,17 @@
 // Step 3: top to bottom, clusters are turned.
-use clusters::cluster_at;
-use clusters::put_floats;
-use labels::Cluster;
-use labels::Job;
+use cluster_table::cluster_at;
+use cluster_table::put_floats;
+use spec::Cluster;
+use spec::Job;
 ghost use mathlib.Core.Path.{_≡_};
 ghost use Prim.Native.Nat.{_≤_};
 ghost use lib.ListN.{length};
-ghost use Rattle.labels.specs.WritingMode.{turned, applyWritingMode};
-ghost use Rattle.clusters.specs.Clusters.{clustersOf};
+ghost use Rattle.spec.specs.WritingMode.{verticalMetrics, applyWritingMode};
+ghost use Rattle.cluster_table.specs.Clusters.{clustersOf};
 
 // The cluster moved to the middle of the line. Of an upright one ascent and descent become plus and minus half the width.
-pub fn turned(c: Cluster) -> Cluster
-    ensures { λ r. ⌜ r ≡ turned c ⌝ }
+pub fn vertical_metrics(c: Cluster) -> Cluster
+    ensures { λ r. ⌜ r ≡ verticalMetrics c ⌝ }
 {
     let mut d = c;
     d.nudge = (c.ascent + c.descent) / 2.0;
@@ -32,7 +32,7 @@ pub fn apply_writing_mode(mode: u8, floats: &mut [[f32; 10]], words: &[[u32; 6]]
     }
     let mut i: usize = 0;
     while i < n {
-        put_floats(floats, i, turned(cluster_at(floats, words, i)));
+        put_floats(floats, i, vertical_metrics(cluster_at(floats, words, i)));
         i += 1;
     }
 }

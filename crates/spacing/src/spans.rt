@@ -2,16 +2,16 @@
 use job_rows::rows::span_float;
 use job_rows::sizes::SPAN_LETTER_AT;
 use job_rows::sizes::SPAN_WORD_AT;
-use labels::Cluster;
+use spec::Cluster;
 ghost use mathlib.Core.Path.{_≡_};
 ghost use mathlib.Core.Bool.{not};
 ghost use lib.ListN.{drop};
-ghost use Rattle.labels.specs.Lists.{any};
-ghost use Rattle.labels.specs.Single.{isZero, _+ᶠ_};
-ghost use Rattle.labels.specs.declared.Span.{Span};
-ghost use Rattle.labels.specs.Job.{spanAt};
-ghost use Rattle.labels.specs.Decode.{spanOf};
-ghost use Rattle.labels.specs.Cluster.{rounded};
+ghost use Rattle.spec.specs.Lists.{any};
+ghost use Rattle.spec.specs.Single.{isZero, _+ᶠ_};
+ghost use Rattle.spec.specs.declared.Span.{Span};
+ghost use Rattle.spec.specs.Job.{spanAt};
+ghost use Rattle.spec.specs.Decode.{spanOf};
+ghost use Rattle.spec.specs.Cluster.{rounded};
 ghost use Rattle.job_rows.specs.Rows.{spansIn};
 ghost use Rattle.spacing.specs.Spans.{spacingOf};
 
@@ -34,7 +34,7 @@ fn spacing_of(row: &[u8], spacing: Spacing) -> f32
 pub fn spacing_at(s: &[u8], at: usize, spacing: Spacing) -> f32
     ensures { λ r. ⌜ r ≡ spacingOf spacing (spanOf (drop at (now (s .entry)))) ⌝ }
 {
-    spacing_of(wire::place::from(s, at), spacing)
+    spacing_of(wire::slice::tail(s, at), spacing)
 }
 
 // The spacing of the span of place `k` in the chunk.

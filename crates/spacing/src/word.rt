@@ -4,16 +4,16 @@ use crate::spans::Spacing;
 use crate::spans::any_spacing;
 use crate::spans::spaced;
 use crate::spans::spacing_in;
-use clusters::cluster_at;
-use clusters::put_floats;
-use labels::Cluster;
+use cluster_table::cluster_at;
+use cluster_table::put_floats;
+use spec::Cluster;
 ghost use mathlib.Core.Path.{_≡_};
 ghost use Prim.Native.Nat.{_≤_};
 ghost use lib.ListN.{length};
-ghost use Rattle.labels.specs.Cluster.{rounded};
-ghost use Rattle.labels.specs.WordSpacing.{wordSpaced, applyWordSpacing};
+ghost use Rattle.spec.specs.Cluster.{rounded};
+ghost use Rattle.spec.specs.WordSpacing.{wordSpaced, applyWordSpacing};
 ghost use Rattle.job_rows.specs.Rows.{spansIn};
-ghost use Rattle.clusters.specs.Clusters.{clustersOf};
+ghost use Rattle.cluster_table.specs.Clusters.{clustersOf};
 
 // The cluster with its spacing, if its character separates words.
 fn word_spaced(s: &[u8], text: &[u8], spans: &[usize], c: Cluster) -> Cluster

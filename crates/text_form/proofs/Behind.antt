@@ -6,7 +6,7 @@ use mathlib.Core.List.{List}
 use native.Mathlib.Omega.{arith}
 use lib.ListN.{length, drop}
 use lib.Seq.{drop-drop}
-use Rattle.labels.specs.Bytes.{sizes}
+use Rattle.spec.specs.Bytes.{sizes}
 use Rattle.wire.proofs.Places.{after-drops}
 use Rattle.text_form.specs.Walk.{behind}
 

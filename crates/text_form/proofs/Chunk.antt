@@ -4,8 +4,8 @@ use mathlib.Core.Path.{_≡_, _∙_, ap}
 use mathlib.Core.List.{List}
 use lib.ListN.{drop}
 use lib.Seq.{drop-drop}
-use Rattle.labels.specs.Bytes.{be, sizes}
-use Rattle.labels.specs.Answer.{chunkHeadSize, clusterPart, clusterRowSizeOf, spanRowSizeOf, spanPart, chunkRowSizeOf}
+use Rattle.spec.specs.Bytes.{be, sizes}
+use Rattle.spec.specs.Answer.{chunkHeadSize, clusterPart, clusterRowSizeOf, spanRowSizeOf, spanPart, chunkRowSizeOf}
 use Rattle.text_form.specs.Walk.{behind}
 
 -- `first` is the place of the first span row, and `end` the place behind the last

@@ -2,8 +2,8 @@
 use Prim.Native.Nat.{ℕ}
 use mathlib.Core.List.{List}
 use lib.ListN.{drop}
-use Rattle.labels.specs.Bytes.{sizes}
-use Rattle.labels.specs.Answer.{clusterRowSizeOf, spanRowSizeOf}
+use Rattle.spec.specs.Bytes.{sizes}
+use Rattle.spec.specs.Answer.{clusterRowSizeOf, spanRowSizeOf}
 use Rattle.text_form.specs.declared.show.RowKind.{RowKind}
 use Rattle.text_form.specs.declared.show.RowKind.the-variants as R
 

@@ -3,7 +3,7 @@ mod line;
 mod show;
 
 use layout::Answered;
-use wire::place::part;
+use wire::slice::window;
 
 // One byte more than a job may have, so that a longer one is seen to be longer.
 const JOB_ROOM: usize = 65_537;
@@ -14,7 +14,7 @@ fn show_job(job: &[u8]) {
     let mut answer = [0u8; ANSWER_ROOM];
     let answered = layout::layout_text(job, &mut answer);
     match answered {
-        Answered::Written(n) => show::show_answer(part(&answer, 0, n)),
+        Answered::Written(n) => show::show_answer(window(&answer, 0, n)),
         Answered::Refused(number) => show::show_refusal(number),
     }
 }

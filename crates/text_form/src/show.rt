@@ -25,12 +25,12 @@ use answer_format::cluster_size;
 use answer_format::span_size;
 ghost use mathlib.Core.Path.{_≡_};
 ghost use lib.ListN.{drop};
-ghost use Rattle.labels.specs.Answer.{chunkRowSizeOf};
+ghost use Rattle.spec.specs.Answer.{chunkRowSizeOf};
 ghost use Rattle.text_form.specs.Walk.{rowSizeOf, behind};
-use wire::place::after;
-use wire::place::from;
 use wire::read::u8_at;
 use wire::read::u16_at;
+use wire::slice::offset_after;
+use wire::slice::tail;
 
 fn show_cluster(i: usize, row: &[u8]) {
     line::start(b"cluster");
@@ -56,8 +56,8 @@ fn show_runs(row: &[u8]) {
     let count = u16_at(row, RUN_COUNT_AT) as usize;
     let mut at = RUNS_AT;
     for _ in 0..count {
-        show_run(span, from(row, at));
-        at = after(row, at, RUN_BYTES);
+        show_run(span, tail(row, at));
+        at = offset_after(row, at, RUN_BYTES);
     }
 }
 
@@ -98,8 +98,8 @@ fn show_rows(kind: RowKind, chunk: &[u8], first: usize, count: usize) -> usize
 {
     let mut at = first;
     for i in 0..count {
-        let size = show_row(kind, i, from(chunk, at));
-        at = after(chunk, at, size);
+        let size = show_row(kind, i, tail(chunk, at));
+        at = offset_after(chunk, at, size);
     }
     at
 }
@@ -128,8 +128,8 @@ pub fn show_answer(answer: &[u8]) {
     let count = u8_at(answer, CHUNK_COUNT_AT) as usize;
     let mut at = ANSWER_HEAD_BYTES;
     for i in 0..count {
-        let size = show_chunk(i, from(answer, at));
-        at = after(answer, at, size);
+        let size = show_chunk(i, tail(answer, at));
+        at = offset_after(answer, at, size);
     }
 }
 

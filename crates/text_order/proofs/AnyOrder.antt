@@ -6,9 +6,9 @@ use mathlib.Core.List.{List, [], _∷_}
 use native.Mathlib.Omega.{arith}
 use lib.ListN.{length, getD}
 use lib.Dec.{T}
-use Rattle.labels.specs.Lists.{any}
-use Rattle.labels.specs.Position.{Entry, entries, insert, logicalOrder}
-use Rattle.sorting.proofs.Cases.{in-order}
+use Rattle.spec.specs.Lists.{any}
+use Rattle.spec.specs.Position.{Entry, entries, insert, logicalOrder}
+use Rattle.sort.proofs.Cases.{in-order}
 use Rattle.text_order.proofs.Entries.{entry-past, entry-here, inserted}
 
 -- ---- either of several tests

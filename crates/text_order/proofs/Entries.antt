@@ -7,10 +7,10 @@ use native.Mathlib.Omega.{arith}
 use lib.ListN.{length, getD, length-append}
 use lib.Seq.{append-snoc, getD-append-seam}
 use borrow.Author.Tests.{le-leb, lt-leb}
-use Rattle.laws.proofs.All.{all-weaken}
-use Rattle.labels.specs.Lists.{All}
-use Rattle.labels.specs.Position.{Entry, entries, insert, logicalOrder}
-use Rattle.sorting.proofs.Cases.{in-order}
+use Rattle.spec_laws.proofs.All.{all-weaken}
+use Rattle.spec.specs.Lists.{All}
+use Rattle.spec.specs.Position.{Entry, entries, insert, logicalOrder}
+use Rattle.sort.proofs.Cases.{in-order}
 
 -- behind those of its byte index and of smaller ones
 pub entry-past : (e f : Entry) (fs : List Entry) → f .index ≤ e .index → insert e (f ∷ fs) ≡ f ∷ insert e fs

@@ -8,10 +8,10 @@ use native.Mathlib.Omega.{arith}
 use lib.ListN.{length, getD, List·getD-map}
 use lib.Dec.{eqb, lit<}
 use borrow.Author.Tests.{eq-eqb, ne-eqb, eqb-true}
-use Rattle.laws.proofs.All.{all-here, all-getD, all-weaken}
-use Rattle.labels.specs.Lists.{any}
-use Rattle.labels.specs.Position.{Entry, entries, logicalOrder}
-use Rattle.sorting.specs.Sorted.{sorted}
+use Rattle.spec_laws.proofs.All.{all-here, all-getD, all-weaken}
+use Rattle.spec.specs.Lists.{any}
+use Rattle.spec.specs.Position.{Entry, entries, logicalOrder}
+use Rattle.sort.specs.Sorted.{sorted}
 use Rattle.text_order.specs.Keys.{keyOf, keysOf}
 use Rattle.text_order.proofs.Entries.{order-length, Stands, order-stands, order-places}
 use Rattle.text_order.proofs.TextKeys.{key-index, key-place, order-keys}

@@ -10,13 +10,13 @@ use lib.Dec.{ltb}
 use lib.ListN.{length, getD, set, take, length-take}
 use lib.Seq.{take-suc, take-suc-set, take-all, take-at, getD-take, length-take-le}
 use borrow.Author.Tests.{ltb-true}
-use Rattle.labels.specs.Lists.{all}
-use Rattle.laws.proofs.All.{all-at}
-use Rattle.clusters.specs.Clusters.{indexesIn}
-use Rattle.labels.specs.Position.{logicalOrder}
-use Rattle.sorting.specs.Sorted.{sorted}
+use Rattle.spec.specs.Lists.{all}
+use Rattle.spec_laws.proofs.All.{all-at}
+use Rattle.cluster_table.specs.Clusters.{indexesIn}
+use Rattle.spec.specs.Position.{logicalOrder}
+use Rattle.sort.specs.Sorted.{sorted}
 use Rattle.text_order.specs.Keys.{keyOf, keysOf}
-use Rattle.sorting.proofs.Insertion.{sorted-length}
+use Rattle.sort.proofs.Insertion.{sorted-length}
 use Rattle.text_order.proofs.TextKeys.{keys-at, keys-length, order-keys}
 
 -- ---- the byte indexes of stored clusters

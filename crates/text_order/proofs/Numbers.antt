@@ -7,8 +7,8 @@ use native.Mathlib.Numerals.{add-one}
 use native.Mathlib.Omega.{arith}
 use lib.ListN.{length, getD, take, drop, length-take, drop-of-length-le, take-append-drop}
 use lib.Seq.{drop-cons, take-take}
-use Rattle.labels.specs.Utf8.{continues, characters, codePointAt}
-use Rattle.labels.specs.Position.{characterNumber}
+use Rattle.spec.specs.Utf8.{continues, characters, codePointAt}
+use Rattle.spec.specs.Position.{characterNumber}
 use Rattle.text_order.specs.Ordered.{Ordered}
 use Rattle.text_order.proofs.Keys.{indexes-at}
 use Rattle.text_order.proofs.Order.{placeIn, indexIn, place-inside}

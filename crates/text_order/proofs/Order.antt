@@ -7,15 +7,15 @@ use native.Mathlib.Numerals.{add-one}
 use native.Mathlib.Omega.{arith}
 use lib.ListN.{length, getD, take, set}
 use lib.Seq.{getD-take, getD-set-same, getD-set-other, length-take-le, take-all, ext-getD}
-use Rattle.labels.specs.Lists.{All}
-use Rattle.labels.specs.Position.{logicalOrder}
-use Rattle.clusters.specs.Clusters.{indexesIn}
-use Rattle.sorting.specs.Sorted.{sorted}
+use Rattle.spec.specs.Lists.{All}
+use Rattle.spec.specs.Position.{logicalOrder}
+use Rattle.cluster_table.specs.Clusters.{indexesIn}
+use Rattle.sort.specs.Sorted.{sorted}
 use Rattle.text_order.specs.Keys.{keyOf, keysOf}
 use Rattle.text_order.specs.Ordered.{Sortable, Ordered}
-use Rattle.sorting.proofs.Cases.{in-order}
-use Rattle.sorting.proofs.Ascending.{Ascends, sorted-ascends}
-use Rattle.sorting.proofs.Insertion.{sorted-length}
+use Rattle.sort.proofs.Cases.{in-order}
+use Rattle.sort.proofs.Ascending.{Ascends, sorted-ascends}
+use Rattle.sort.proofs.Insertion.{sorted-length}
 use Rattle.text_order.proofs.Entries.{Stands}
 use Rattle.text_order.proofs.KeyPlaces.{orderAt, order-at}
 use Rattle.text_order.proofs.TextKeys.{keys-length, order-keys}

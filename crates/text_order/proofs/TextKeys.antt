@@ -4,12 +4,12 @@ use mathlib.Core.Path.{_≡_, refl, sym, ap, _∙_}
 use mathlib.Core.List.{List, [], _∷_, map, foldl}
 use native.Mathlib.Omega.{arith}
 use lib.ListN.{length, getD, length-map}
-use Rattle.labels.specs.Lists.{All}
-use Rattle.labels.specs.Position.{Entry, entries, insert, logicalOrder}
-use Rattle.sorting.specs.Sorted.{insertKey, sorted}
+use Rattle.spec.specs.Lists.{All}
+use Rattle.spec.specs.Position.{Entry, entries, insert, logicalOrder}
+use Rattle.sort.specs.Sorted.{insertKey, sorted}
 use Rattle.text_order.specs.Keys.{keyOf, keysOf}
-use Rattle.sorting.proofs.Cases.{in-order}
-use Rattle.sorting.proofs.Insertion.{insert-past, insert-here, insert-keys, sorted-keys}
+use Rattle.sort.proofs.Cases.{in-order}
+use Rattle.sort.proofs.Insertion.{insert-past, insert-here, insert-keys, sorted-keys}
 use Rattle.text_order.proofs.Entries.{entry-past, entry-here, inserted, Earlier, earlier-next, entries-length}
 
 -- ---- an entry and its key

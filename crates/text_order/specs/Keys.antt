@@ -1,7 +1,7 @@
 -- The entries of the text order as keys. Definitions only.
 use Prim.Native.Nat.{ℕ, _+_, _*_}
 use mathlib.Core.List.{List, map}
-use Rattle.labels.specs.Position.{Entry, entries}
+use Rattle.spec.specs.Position.{Entry, entries}
 
 -- an entry as one number: by byte index, and by place where that is equal
 abbrev pub keyOf : Entry → ℕ

@@ -5,9 +5,9 @@ use mathlib.Core.Bool.{true}
 use mathlib.Core.List.{List, map}
 use lib.ListN.{length, take}
 use lib.Dec.{ltb}
-use Rattle.labels.specs.Lists.{all}
-use Rattle.labels.specs.Position.{logicalOrder}
-use Rattle.clusters.specs.Clusters.{indexesIn}
+use Rattle.spec.specs.Lists.{all}
+use Rattle.spec.specs.Position.{logicalOrder}
+use Rattle.cluster_table.specs.Clusters.{indexesIn}
 use Rattle.text_order.specs.Keys.{keyOf}
 
 -- there is space for the keys of the n clusters, and a place and a byte index have room in a key

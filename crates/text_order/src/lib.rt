@@ -1,14 +1,14 @@
 // The text order of the clusters, and the number of each cluster's character.
-use sorting::sort;
-use wire::place::part;
+use sort::sort;
+use wire::slice::window;
 ghost use mathlib.Core.Path.{_≡_};
 ghost use mathlib.Core.Bool.{cond};
 ghost use mathlib.Core.List.{map};
 ghost use Prim.Native.Nat.{_+_, _≤_, _<_};
 ghost use lib.ListN.{length, take, drop};
-ghost use Rattle.labels.specs.Utf8.{continues, characters};
-ghost use Rattle.labels.specs.Position.{logicalOrder, characterNumber};
-ghost use Rattle.clusters.specs.Clusters.{indexesIn};
+ghost use Rattle.spec.specs.Utf8.{continues, characters};
+ghost use Rattle.spec.specs.Position.{logicalOrder, characterNumber};
+ghost use Rattle.cluster_table.specs.Clusters.{indexesIn};
 ghost use Rattle.text_order.specs.Keys.{keyOf, keysOf};
 ghost use Rattle.text_order.specs.Ordered.{Sortable, Ordered};
 
@@ -47,7 +47,7 @@ fn starts(b: u8) -> usize
 fn characters_between(text: &[u8], at: usize, end: usize) -> usize
     ensures { λ r. ⌜ r ≡ characters (drop at (take end (now (text .entry)))) ⌝ }
 {
-    let front = part(text, 0, end);
+    let front = window(text, 0, end);
     let mut count: usize = 0;
     let mut i = at;
     while i < front.len() {

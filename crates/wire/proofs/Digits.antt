@@ -7,7 +7,7 @@ use native.Mathlib.Nat.{pow-suc, pow-le-pow-right}
 use native.Mathlib.Omega.{arith}
 use lib.ListN.{getD, length, drop, drop-of-length-le}
 use lib.Dec.{lit<}
-use Rattle.labels.specs.Bytes.{be}
+use Rattle.spec.specs.Bytes.{be}
 
 -- one byte more
 pub be-step : (bs : List ℕ) (i : ℕ) → be (i + 1) bs ≡ be i bs * 256 + getD bs i 0

@@ -7,7 +7,7 @@ use native.Mathlib.Nat.{eq-or-lt-of-le}
 use native.Mathlib.Omega.{arith}
 use lib.ListN.{length, getD, drop, length-append, List·getD-append}
 use lib.Seq.{getD-at, getD-drop}
-use Rattle.labels.specs.Bytes.{be, signed, float}
+use Rattle.spec.specs.Bytes.{be, signed, float}
 use Rattle.wire.specs.Padded.{paddedOf}
 use Rattle.wire.proofs.Digits.{be-same}
 

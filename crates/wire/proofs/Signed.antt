@@ -8,7 +8,7 @@ use lib.IntN.{pos, negsuc, _-ℤ_}
 use mir.Syntax.{Width}
 use mir.Val.{toZ, ofZ, SFits, hbits}
 use mir.Facts.{toZ-pos, toZ-ofZ}
-use Rattle.labels.specs.Bytes.{be, signed}
+use Rattle.spec.specs.Bytes.{be, signed}
 use Rattle.wire.specs.Signed.{asSigned}
 
 minus-one : (n : ℕ) → negsuc 0 -ℤ pos n ≡ negsuc n

@@ -7,8 +7,8 @@ use native.Mathlib.Nat.{add-zero}
 use native.Mathlib.Omega.{arith}
 use lib.ListN.{length, take, drop, set, length-append, length-take, length-drop, take-append-drop}
 use lib.Seq.{take-at, drop-at, drop-drop, take-set-le, set-split, length-take-le}
-use Rattle.labels.specs.Bytes.{bytes}
-use Rattle.laws.proofs.Numbers.{length-bytes}
+use Rattle.spec.specs.Bytes.{bytes}
+use Rattle.spec_laws.proofs.Numbers.{length-bytes}
 use Rattle.wire.specs.Splice.{splice}
 
 module _ {A : Type 0} where

@@ -1,4 +1,4 @@
 // Numbers in bytes, the highest byte first: read from a slice at a place, and written into one.
-pub mod place;
 pub mod read;
+pub mod slice;
 pub mod write;

@@ -3,7 +3,7 @@ ghost use mathlib.Core.Path.{_≡_};
 ghost use Prim.Native.Nat.{_+_, _≤_, _<_, _^_};
 ghost use lib.ListN.{length, drop, getD};
 ghost use lib.Ieee.{binary32, ofBits};
-ghost use Rattle.labels.specs.Bytes.{be, signed, float};
+ghost use Rattle.spec.specs.Bytes.{be, signed, float};
 ghost use Rattle.wire.specs.Padded.{paddedOf};
 ghost use Rattle.wire.specs.Signed.{asSigned};
 

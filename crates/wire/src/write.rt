@@ -3,7 +3,7 @@ ghost use mathlib.Core.Path.{_≡_};
 ghost use Prim.Native.Nat.{_+_, _≤_};
 ghost use lib.ListN.{length};
 ghost use lib.Ieee.{binary32, toBits};
-ghost use Rattle.labels.specs.Bytes.{bytes, floatBytes};
+ghost use Rattle.spec.specs.Bytes.{bytes, floatBytes};
 ghost use Rattle.wire.specs.Splice.{splice};
 
 // `n` in `width` bytes at `at`.

@@ -1,6 +1,6 @@
 -- `answer_format::cluster_size` meets its contract. Assumes nothing.
 use mathlib.Core.Path.{refl}
-use Rattle.labels.specs.Answer.{clusterRowSizeOf}
+use Rattle.spec.specs.Answer.{clusterRowSizeOf}
 use borrow.Author.Needs.{needs}
 use Rattle.answer_format.proofs.cluster_size.Statement.{statement}
 use Rattle.answer_format.proofs.cluster_size.Tie as tie

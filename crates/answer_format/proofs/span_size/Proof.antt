@@ -1,6 +1,6 @@
 -- `answer_format::span_size` meets its contract. Assumes nothing.
 use mathlib.Core.Path.{refl}
-use Rattle.labels.specs.Answer.{spanRowSizeOf}
+use Rattle.spec.specs.Answer.{spanRowSizeOf}
 use borrow.Author.Needs.{needs}
 use Rattle.answer_format.proofs.span_size.Statement.{statement}
 use Rattle.answer_format.proofs.span_size.Tie as tie

@@ -2,9 +2,9 @@
 use mathlib.Core.Path.{_≡_}
 use native.Mathlib.Omega.{arith}
 use lib.ListN.{length}
-use Rattle.labels.specs.Bytes.{bytes, floatBytes}
-use Rattle.labels.specs.Answer.{runBytes}
-use Rattle.laws.proofs.Numbers.{length-bytes, length-floatBytes}
+use Rattle.spec.specs.Bytes.{bytes, floatBytes}
+use Rattle.spec.specs.Answer.{runBytes}
+use Rattle.spec_laws.proofs.Numbers.{length-bytes, length-floatBytes}
 use Rattle.wire.proofs.Splice.{splice-then}
 use borrow.Author.Needs.{needs}
 use Rattle.decoration.proofs.put_run.Statement.{statement}

@@ -4,18 +4,18 @@ use mathlib.Core.Path.{_≡_, sym, _∙_}
 use mathlib.Core.List.{List}
 use native.Mathlib.Omega.{arith}
 use lib.ListN.{length}
-use Rattle.labels.specs.Outcome.{Outcome, given}
-use Rattle.labels.specs.Answer.{answerHeadSize}
-use Rattle.labels.specs.declared.Job.{Job}
-use Rattle.labels.specs.Layout.{Progress}
-use Rattle.job.specs.Answer.{answerOf}
-use Rattle.job.specs.declared.check.Checked.the-variants as C
-use Rattle.job.proofs.Answers.{refusal-where-refused}
+use Rattle.spec.specs.Outcome.{Outcome, given}
+use Rattle.spec.specs.Answer.{answerHeadSize}
+use Rattle.spec.specs.declared.Job.{Job}
+use Rattle.spec.specs.Layout.{Progress}
+use Rattle.job_checks.specs.Verdict.{verdictOf}
+use Rattle.job_checks.specs.declared.check.Checked.the-variants as C
+use Rattle.job_checks.proofs.Verdicts.{refusal-where-refused}
 use Rattle.chunk.specs.declared.progress.Progress as chunk
-use Rattle.chunk.specs.Steps.{progressFrom}
-use Rattle.layout.specs.Called.{LaidOut}
+use Rattle.chunk.specs.Steps.{progressAfter}
+use Rattle.layout.specs.Called.{LayoutPromise}
 use Rattle.layout.specs.Checked.{CheckedJob}
-use Rattle.layout.specs.Steps.{jobLaid, answered}
+use Rattle.layout.specs.Steps.{jobOutcome, answered}
 use Rattle.layout.proofs.Accepting.{job-given, checked-job}
 use Rattle.layout.proofs.Promised.{bytes-of, promised-given, promised-refused}
 use Rattle.layout.proofs.Single.{count-of-chunks}
@@ -56,26 +56,26 @@ module _ (c : tie.After-places) where
   abbrev places : Job
   places = c .places .given .0 .0
 
-  accepted : answerOf s ≡ C.Accepted places
+  accepted : verdictOf s ≡ C.Accepted places
   accepted = sym (c .before .before .check .ensures) ∙ c .places .given .1
 
   passed : CheckedJob s places
   passed = checked-job s places accepted
 
-abbrev chosen : tie.After-put-chunks → tie.After-places
+abbrev chosen : tie.After-layout-all → tie.After-places
 chosen c = c .before .before .before
 
-abbrev lent : tie.After-put-chunks → List ℕ
+abbrev lent : tie.After-layout-all → List ℕ
 lent c = start (chosen c .before .before) .args .answer .now
 
-abbrev whole : tie.After-put-chunks → Outcome Progress
-whole c = jobLaid (s (chosen c)) (places (chosen c))
+abbrev whole : tie.After-layout-all → Outcome Progress
+whole c = jobOutcome (s (chosen c)) (places (chosen c))
 
-put-chunks-requires : tie.Need-put-chunks-requires
-put-chunks-requires c κs = passed (c .before .before)
+layout-all-requires : tie.Need-layout-all-requires
+layout-all-requires c κs = passed (c .before .before)
 
 -- what is answered is what is promised
-promise : (c : tie.After-put-chunks) {returned size : ℕ} {new : List ℕ} → Answers (answered (whole c) (length (lent c))) (lent c) returned size new → LaidOut (s (chosen c)) (lent c) returned size new
+promise : (c : tie.After-layout-all) {returned size : ℕ} {new : List ℕ} → Answers (answered (whole c) (length (lent c))) (lent c) returned size new → LayoutPromise (s (chosen c)) (lent c) returned size new
 promise c is-answered =
     let found = chosen c in
     let bytes = found .before .before .before .before in
@@ -94,28 +94,28 @@ returns-3 c =
     let put = c .before .before .before .before .before in
     let told = c .before .number2 .given in
     promise put
-    (answers-refused (whole put) (lent put) (told .0 .0) (refused-of answerHeadSize (whole put) (told .0 .0) (sym (told .1) ∙ put .put-chunks .ensures .laid)) (put .put-chunks .ensures .buffer))
+    (answers-refused (whole put) (lent put) (told .0 .0) (refused-of answerHeadSize (whole put) (told .0 .0) (sym (told .1) ∙ put .layout-all .ensures .laid)) (put .layout-all .ensures .buffer))
 
 -- ---- none is
 
 enum-known-end : tie.Need-enum-known-end
 enum-known-end c = search needs
 
-abbrev behind : tie.After-end → tie.After-put-chunks
+abbrev behind : tie.After-end → tie.After-layout-all
 behind c = c .before .before .before .before
 
 module _ (c : tie.After-end) where
   abbrev end : chunk.Progress
   end = c .end .given .0 .0
 
-  is : (st : Progress) × (whole (behind c) ≡ given st) × (end ≡ progressFrom answerHeadSize st)
-  is = given-of answerHeadSize (whole (behind c)) end (sym (c .end .given .1) ∙ behind c .put-chunks .ensures .laid)
+  is : (st : Progress) × (whole (behind c) ≡ given st) × (end ≡ progressAfter answerHeadSize st)
+  is = given-of answerHeadSize (whole (behind c)) end (sym (c .end .given .1) ∙ behind c .layout-all .ensures .laid)
 
   long : end .length ≡ answerLength (is .0)
   long = end-length (is .0) (is .2)
 
-  kept : length (behind c .put-chunks .last .1 .1 .0) ≡ length (lent (behind c))
-  kept = behind c .put-chunks .kept .1 .1 .0
+  kept : length (behind c .layout-all .last .1 .1 .0) ≡ length (lent (behind c))
+  kept = behind c .layout-all .kept .1 .1 .0
 
 same-length : tie.Need-same-length
 same-length c = search needs
@@ -124,7 +124,7 @@ returns : tie.Need-returns
 returns c =
     let going = c .before .before .before in
     let put = behind going in
-    promise put (answers-too-long (whole put) (lent put) (is going .0) (is going .1) (omega (arith, long going, c .if1 .taken, kept going)) (put .put-chunks .ensures .buffer))
+    promise put (answers-too-long (whole put) (lent put) (is going .0) (is going .1) (omega (arith, long going, c .if1 .taken, kept going)) (put .layout-all .ensures .buffer))
 
 count-of-requires : tie.Need-count-of-requires
 count-of-requires c κs = search needs
@@ -154,7 +154,7 @@ returns-4 c =
     let found = chosen put in
     promise put
     (answers-written (whole put) (lent put) (is going .0) (is going .1) (end going .length) (count .count-of .result) (omega (arith, long going, room .if1 .left, kept going)) (long going)
-    (count-of-chunks (s found) (places found) (count .count-of .ensures .0) ∙ sym (rows-many (s found) (places found) (is going .0) (is going .1))) (put .put-chunks .ensures .buffer) (head .put-answer-head .ensures))
+    (count-of-chunks (s found) (places found) (count .count-of .ensures .0) ∙ sym (rows-many (s found) (places found) (is going .0) (is going .1))) (put .layout-all .ensures .buffer) (head .put-answer-head .ensures))
 
 pub layout-text-spec : {M : Type 1} → statement M
 layout-text-spec =
@@ -163,7 +163,7 @@ layout-text-spec =
     check-requires
     enum-known-number
     enum-known-places
-    put-chunks-requires
+    layout-all-requires
     enum-known-number-2
     enum-known-end
     same-length

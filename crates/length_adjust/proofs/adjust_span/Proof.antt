@@ -3,12 +3,12 @@ use mathlib.Core.Path.{_≡_, sym, ap, _∙_}
 use Prim.Native.Nat.{_<_}
 use mathlib.Core.List.{[], map}
 use lib.ListN.{length}
-use Rattle.labels.specs.Outcome.{given}
-use Rattle.labels.specs.LengthAdjust.{placesFrom, clusterIndexes, adjustGlyphsOf}
-use Rattle.labels.specs.Looked.{bytesLooked, spanLooked}
-use Rattle.labels.specs.Cluster.{rounded}
-use Rattle.clusters.proofs.Rows.{clusters-indexes}
-use Rattle.clusters.specs.Clusters.{clustersOf, indexesIn}
+use Rattle.spec.specs.Outcome.{given}
+use Rattle.spec.specs.LengthAdjust.{placesFrom, clusterIndexes, adjustGlyphsOf}
+use Rattle.spec.specs.Looked.{bytesLooked, spanLooked}
+use Rattle.spec.specs.Cluster.{rounded}
+use Rattle.cluster_table.proofs.Rows.{clusters-indexes}
+use Rattle.cluster_table.specs.Clusters.{clustersOf, indexesIn}
 use Rattle.length_adjust.specs.Marks.{markedIn}
 use Rattle.length_adjust.specs.Answer.{adjustedOf}
 use Rattle.length_adjust.proofs.Bytes.{indexOf, looked-most}

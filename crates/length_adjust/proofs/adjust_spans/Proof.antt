@@ -3,13 +3,13 @@ use Prim.Native.Nat.{ℕ, _+_, _-_, _*_, _≤_, _<_}
 use mathlib.Core.Path.{_≡_, refl, sym, ap, _∙_}
 use mathlib.Core.List.{List, foldl}
 use lib.ListN.{length, drop, length-map}
-use Rattle.labels.specs.Outcome.{Outcome, refused, given}
-use Rattle.labels.specs.Job.{blankSpan, spanAt}
-use Rattle.labels.specs.declared.Cluster.{Cluster}
-use Rattle.labels.proofs.Loops.{fold-turn, fold-done}
-use Rattle.labels.specs.LengthAdjust.{adjustSpan, applyLengthAdjust}
-use Rattle.labels.specs.Looked.{spanLooked, spansLooked}
-use Rattle.clusters.specs.Clusters.{clustersOf, indexesIn}
+use Rattle.spec.specs.Outcome.{Outcome, refused, given}
+use Rattle.spec.specs.Job.{blankSpan, spanAt}
+use Rattle.spec.specs.declared.Cluster.{Cluster}
+use Rattle.spec.proofs.Loops.{fold-turn, fold-done}
+use Rattle.spec.specs.LengthAdjust.{adjustSpan, applyLengthAdjust}
+use Rattle.spec.specs.Looked.{spanLooked, spansLooked}
+use Rattle.cluster_table.specs.Clusters.{clustersOf, indexesIn}
 use Rattle.job_rows.specs.Rows.{spansIn}
 use Rattle.text_order.proofs.Order.{ordered-still}
 use Rattle.length_adjust.specs.Answer.{adjustedOf}

@@ -4,14 +4,14 @@ use borrow.Author.Needs.{needs}
 use Rattle.replay.proofs.holds.Statement.{statement}
 use Rattle.replay.proofs.holds.Tie as tie
 
-part-requires : tie.Need-part-requires
-part-requires c κs = search needs
+window-requires : tie.Need-window-requires
+window-requires c κs = search needs
 
 same-bytes-requires : tie.Need-same-bytes-requires
 same-bytes-requires c κs = search needs
 
-from-requires : tie.Need-from-requires
-from-requires c κs = search needs
+tail-requires : tie.Need-tail-requires
+tail-requires c κs = search needs
 
 all-are-requires : tie.Need-all-are-requires
 all-are-requires c κs = search needs
@@ -19,8 +19,8 @@ all-are-requires c κs = search needs
 returns : tie.Need-returns
 returns c =
     let told = c .before .before in
-    rw (c .all-are .ensures, c .before .from .ensures, told .same-bytes .ensures, told .before .part .ensures) refl
+    rw (c .all-are .ensures, c .before .tail .ensures, told .same-bytes .ensures, told .before .window .ensures) refl
 
 pub holds-spec : {M : Type 1} → statement M
 holds-spec =
-    tie.close (tie.spec part-requires same-bytes-requires from-requires all-are-requires returns)
+    tie.close (tie.spec window-requires same-bytes-requires tail-requires all-are-requires returns)

@@ -21,8 +21,8 @@ cast-count c = search needs
 loop-holds : tie.Need-loop-holds Inv-loop μ-loop
 loop-holds c = search needs
 
-from-requires : tie.Need-from-requires Inv-loop μ-loop
-from-requires c κs = search needs
+tail-requires : tie.Need-tail-requires Inv-loop μ-loop
+tail-requires c κs = search needs
 
 size-requires : tie.Need-size-requires Inv-loop μ-loop
 size-requires c κs = search needs
@@ -33,8 +33,8 @@ agrees-requires c κs = search needs
 add-agree : tie.Need-add-agree Inv-loop μ-loop
 add-agree c = search needs
 
-after-requires : tie.Need-after-requires Inv-loop μ-loop
-after-requires c κs = search needs
+offset-after-requires : tie.Need-offset-after-requires Inv-loop μ-loop
+offset-after-requires c κs = search needs
 
 add-counter : tie.Need-add-counter Inv-loop μ-loop
 add-counter c = search needs
@@ -63,11 +63,11 @@ replay-records-spec =
     u32-at-requires
     cast-count
     loop-holds
-    from-requires
+    tail-requires
     size-requires
     agrees-requires
     add-agree
-    after-requires
+    offset-after-requires
     add-counter
     loop-less
     loop-again

@@ -2,7 +2,7 @@
 use mathlib.Core.Path.{_≡_, ap, _∙_}
 use native.Mathlib.Omega.{arith}
 use lib.Seq.{take-length}
-use Rattle.labels.specs.Utf8.{characters}
+use Rattle.spec.specs.Utf8.{characters}
 use Rattle.text_order.proofs.Numbers.{characters-few}
 use borrow.Author.Needs.{needs}
 use Rattle.text_order.proofs.character_count.Statement.{statement}

@@ -4,7 +4,7 @@ use mathlib.Core.Path.{_≡_, refl, ap, _∙_}
 use native.Mathlib.Nat.{not-suc-le-zero}
 use native.Mathlib.Omega.{arith}
 use lib.ListN.{length, length-set}
-use Rattle.labels.specs.Position.{characterNumber}
+use Rattle.spec.specs.Position.{characterNumber}
 use Rattle.text_order.proofs.Order.{indexIn, written, place-inside, index-rises, written-turn, written-all}
 use Rattle.text_order.proofs.Numbers.{Next, none-before, walk-next}
 use borrow.Author.Needs.{needs}

@@ -4,7 +4,7 @@ use mathlib.Core.List.{List}
 use mathlib.Core.Path.{_≡_, ap, _∙_}
 use native.Mathlib.Omega.{arith}
 use lib.ListN.{length, drop}
-use Rattle.labels.specs.Utf8.{characters}
+use Rattle.spec.specs.Utf8.{characters}
 use Rattle.text_order.proofs.Numbers.{count-turn, count-done}
 use borrow.Author.Needs.{needs}
 use Rattle.text_order.proofs.characters_between.Statement.{statement}
@@ -17,8 +17,8 @@ Inv-loop text at end front count₀ i₀ count i =
 abbrev μ-loop : tie.MeasureT-loop
 μ-loop text at end front count₀ i₀ count i = length front - i
 
-part-requires : tie.Need-part-requires Inv-loop μ-loop
-part-requires c κs = search needs
+window-requires : tie.Need-window-requires Inv-loop μ-loop
+window-requires c κs = search needs
 
 loop-holds : tie.Need-loop-holds Inv-loop μ-loop
 loop-holds c = (omega arith, omega arith)
@@ -41,12 +41,12 @@ loop-less c = search needs
 loop-again : tie.Need-loop-again Inv-loop μ-loop
 loop-again c =
     let l = c .before .before .before .loop in
-    let front = c .before .before .before .before .part .result .now in
+    let front = c .before .before .before .before .window .result .now in
     (omega arith, omega (arith, count-turn front (l .i) (omega arith)))
 
 returns : tie.Need-returns Inv-loop μ-loop
 returns c =
-    let front = c .before .before .part in
+    let front = c .before .before .window in
     let l = c .before .loop in
     let a = c .before .before .before .before .args in
     let counted : l .count ≡ characters (drop (a .at) (front .result .now)) = omega (arith, count-done (front .result .now) (l .i) (omega arith)) in
@@ -58,7 +58,7 @@ characters-between-spec =
     (tie.spec
     Inv-loop
     μ-loop
-    part-requires
+    window-requires
     loop-holds
     shared-slice-read-starts
     starts-requires

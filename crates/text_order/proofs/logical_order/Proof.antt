@@ -2,7 +2,7 @@
 use mathlib.Core.Path.{sym}
 use native.Mathlib.Omega.{arith}
 use lib.ListN.{length-take}
-use Rattle.clusters.specs.Clusters.{indexesIn}
+use Rattle.cluster_table.specs.Clusters.{indexesIn}
 use Rattle.text_order.proofs.Keys.{indexes-length, front-sorted}
 use borrow.Author.Needs.{needs}
 use Rattle.text_order.proofs.logical_order.Statement.{statement}

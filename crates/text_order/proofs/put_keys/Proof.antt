@@ -3,7 +3,7 @@ use Prim.Native.Nat.{ℕ, _+_, _-_, _*_, _≤_}
 use mathlib.Core.Path.{_≡_, refl, sym, ap, _∙_}
 use native.Mathlib.Omega.{arith}
 use lib.ListN.{length, take, length-set}
-use Rattle.clusters.specs.Clusters.{indexesIn}
+use Rattle.cluster_table.specs.Clusters.{indexesIn}
 use Rattle.text_order.specs.Keys.{keysOf}
 use Rattle.text_order.proofs.Keys.{indexes-length, indexes-at, index-small, key-turn, keys-done}
 use borrow.Author.Needs.{needs}

@@ -1,8 +1,8 @@
 -- `baseline::alignment::alignment_baseline` meets its contract: the table is the definition's list. Assumes nothing.
 use mathlib.Core.Path.{refl}
 use lib.ListN.{List·getD-eq-default}
-use Rattle.labels.specs.declared.AlignmentBaseline.{AlignmentBaseline}
-use Rattle.labels.specs.Baseline.{alignmentBaselines}
+use Rattle.spec.specs.declared.AlignmentBaseline.{AlignmentBaseline}
+use Rattle.spec.specs.Baseline.{alignmentBaselines}
 use borrow.Author.Needs.{needs}
 use Rattle.baseline.proofs.alignment.alignment_baseline.Statement.{statement}
 use Rattle.baseline.proofs.alignment.alignment_baseline.Tie as tie

@@ -1,5 +1,5 @@
 -- `baseline::alignment::alignment_baseline_shift` meets its contract: case by case. Assumes nothing.
-use Rattle.labels.specs.Baseline.{alignmentBaselineShift}
+use Rattle.spec.specs.Baseline.{alignmentBaselineShift}
 use borrow.Author.Needs.{needs}
 use Rattle.baseline.proofs.alignment.alignment_baseline_shift.Statement.{statement}
 use Rattle.baseline.proofs.alignment.alignment_baseline_shift.Tie as tie

@@ -1,5 +1,5 @@
 -- `baseline::alignment::alignment_of` meets its contract: case by case. Assumes nothing.
-use Rattle.labels.specs.Baseline.{alignmentOf}
+use Rattle.spec.specs.Baseline.{alignmentOf}
 use borrow.Author.Needs.{needs}
 use Rattle.baseline.proofs.alignment.alignment_of.Statement.{statement}
 use Rattle.baseline.proofs.alignment.alignment_of.Tie as tie

@@ -1,8 +1,8 @@
 -- `baseline::alignment::dominant_baseline` meets its contract: the table is the definition's list. Assumes nothing.
 use mathlib.Core.Path.{refl}
 use lib.ListN.{List·getD-eq-default}
-use Rattle.labels.specs.declared.DominantBaseline.{DominantBaseline}
-use Rattle.labels.specs.Baseline.{dominantBaselines}
+use Rattle.spec.specs.declared.DominantBaseline.{DominantBaseline}
+use Rattle.spec.specs.Baseline.{dominantBaselines}
 use borrow.Author.Needs.{needs}
 use Rattle.baseline.proofs.alignment.dominant_baseline.Statement.{statement}
 use Rattle.baseline.proofs.alignment.dominant_baseline.Tie as tie

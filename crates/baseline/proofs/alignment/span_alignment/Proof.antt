@@ -1,5 +1,5 @@
 -- `baseline::alignment::span_alignment` meets its contract. Assumes nothing.
-use Rattle.labels.specs.Baseline.{spanAlignment}
+use Rattle.spec.specs.Baseline.{spanAlignment}
 use native.Mathlib.Omega.{arith}
 use borrow.Author.Tests.{le-leb, lt-leb}
 use borrow.Author.Needs.{needs}

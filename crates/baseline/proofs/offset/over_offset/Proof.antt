@@ -1,5 +1,5 @@
 -- `baseline::offset::over_offset` meets its contract. Assumes nothing.
-use Rattle.labels.specs.Decoration.{overOffset}
+use Rattle.spec.specs.Decoration.{overOffset}
 use borrow.Author.Needs.{needs}
 use Rattle.baseline.proofs.offset.over_offset.Statement.{statement}
 use Rattle.baseline.proofs.offset.over_offset.Tie as tie

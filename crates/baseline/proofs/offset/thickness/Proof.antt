@@ -1,5 +1,5 @@
 -- `baseline::offset::thickness` meets its contract. Assumes nothing.
-use Rattle.labels.specs.Decoration.{thicknessOf}
+use Rattle.spec.specs.Decoration.{thicknessOf}
 use borrow.Author.Needs.{needs}
 use Rattle.baseline.proofs.offset.thickness.Statement.{statement}
 use Rattle.baseline.proofs.offset.thickness.Tie as tie

@@ -1,5 +1,5 @@
 -- `baseline::offset::through_offset` meets its contract. Assumes nothing.
-use Rattle.labels.specs.Decoration.{throughOffset}
+use Rattle.spec.specs.Decoration.{throughOffset}
 use borrow.Author.Needs.{needs}
 use Rattle.baseline.proofs.offset.through_offset.Statement.{statement}
 use Rattle.baseline.proofs.offset.through_offset.Tie as tie

@@ -1,5 +1,5 @@
 -- `baseline::offset::under_offset` meets its contract. Assumes nothing.
-use Rattle.labels.specs.Decoration.{underOffset}
+use Rattle.spec.specs.Decoration.{underOffset}
 use borrow.Author.Needs.{needs}
 use Rattle.baseline.proofs.offset.under_offset.Statement.{statement}
 use Rattle.baseline.proofs.offset.under_offset.Tie as tie

@@ -1,14 +1,14 @@
 -- `baseline::resolve::resolve_baseline` meets its contract. Assumes nothing.
-use Rattle.labels.specs.Decode.{partsOf}
-use Rattle.labels.specs.Baseline.{resolveBaseline}
+use Rattle.spec.specs.Decode.{partsOf}
+use Rattle.spec.specs.Baseline.{resolveBaseline}
 use native.Mathlib.Omega.{arith}
 use borrow.Author.Tests.{eq-eqb, ne-eqb}
 use borrow.Author.Needs.{needs}
 use Rattle.baseline.proofs.resolve.resolve_baseline.Statement.{statement}
 use Rattle.baseline.proofs.resolve.resolve_baseline.Tie as tie
 
-from-requires : tie.Need-from-requires
-from-requires c κs = search needs
+tail-requires : tie.Need-tail-requires
+tail-requires c κs = search needs
 
 shift-count-requires : tie.Need-shift-count-requires
 shift-count-requires c κs = search needs
@@ -29,7 +29,7 @@ returns c =
       eq-eqb (c .before .before .before .before .before .before .before .args .mode) 0 (omega arith),
       c .before .before .before .resolve-baseline-shift .ensures,
       c .before .before .before .before .shift-count .ensures .0,
-      c .before .before .before .before .before .from .ensures,
+      c .before .before .before .before .before .tail .ensures,
       c .alignment-baseline-shift .ensures,
       c .before .span-alignment .ensures,
       c .before .before .before .before .before .before .before .pre,
@@ -42,7 +42,7 @@ returns-2 c =
       ne-eqb (c .before .before .before .before .before .args .mode) 0 (λ e. omega arith),
       c .before .resolve-baseline-shift .ensures,
       c .before .before .shift-count .ensures .0,
-      c .before .before .before .from .ensures,
+      c .before .before .before .tail .ensures,
       c .before .before .before .before .before .pre,
     )
 
@@ -50,7 +50,7 @@ pub resolve-baseline-spec : {M : Type 1} → statement M
 resolve-baseline-spec =
     tie.close
     (tie.spec
-    from-requires
+    tail-requires
     shift-count-requires
     resolve-baseline-shift-requires
     span-alignment-requires

@@ -1,5 +1,5 @@
 -- `baseline::shift::add_baseline_shift` meets its contract: case by case. Assumes nothing.
-use Rattle.labels.specs.Baseline.{addBaselineShift}
+use Rattle.spec.specs.Baseline.{addBaselineShift}
 use borrow.Author.Needs.{needs}
 use Rattle.baseline.proofs.shift.add_baseline_shift.Statement.{statement}
 use Rattle.baseline.proofs.shift.add_baseline_shift.Tie as tie

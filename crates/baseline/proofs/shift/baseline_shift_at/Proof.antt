@@ -1,5 +1,5 @@
 -- `baseline::shift::baseline_shift_at` meets its contract: by the row's kind. Assumes nothing.
-use Rattle.labels.specs.Baseline.{baselineShiftOf}
+use Rattle.spec.specs.Baseline.{baselineShiftOf}
 use borrow.Author.Tests.{ne-eqb}
 use borrow.Author.Needs.{needs}
 use Rattle.baseline.proofs.shift.baseline_shift_at.Statement.{statement}

@@ -2,8 +2,8 @@
 -- what all give. Assumes nothing.
 use Prim.Native.Nat.{_≤_, _-_}
 use mathlib.Core.Path.{_≡_, refl, sym, _∙_}
-use Rattle.labels.specs.Single.{+0}
-use Rattle.labels.specs.Decode.{shiftBytes, shiftOf}
+use Rattle.spec.specs.Single.{+0}
+use Rattle.spec.specs.Decode.{shiftBytes, shiftOf}
 use Rattle.baseline.proofs.Backwards.{added, added-turn, added-done}
 use Rattle.baseline.proofs.Shifts.{addShift, all-added}
 use native.Mathlib.Omega.{arith}
@@ -18,8 +18,8 @@ Inv-loop s at n font size shifts sum₀ k₀ sum k =
 abbrev μ-loop : tie.MeasureT-loop
 μ-loop s at n font size shifts sum₀ k₀ sum k = k
 
-from-requires : tie.Need-from-requires Inv-loop μ-loop
-from-requires c κs = search needs
+tail-requires : tie.Need-tail-requires Inv-loop μ-loop
+tail-requires c κs = search needs
 
 loop-holds : tie.Need-loop-holds Inv-loop μ-loop
 loop-holds c = (omega arith, refl)
@@ -43,7 +43,7 @@ loop-again : tie.Need-loop-again Inv-loop μ-loop
 loop-again c =
     let a = c .before .before .before .before .before .before .args in
     let l = c .before .before .before .loop in
-    let shifts = c .before .before .before .before .from .result .now in (
+    let shifts = c .before .before .before .before .tail .result .now in (
       omega arith,
       rw (c .add-baseline-shift .ensures, c .before .baseline-shift-at .ensures)
           (added-turn shiftBytes shiftOf (addShift (a .font) (a .size)) (l .k) shifts (l .sum) (c .before .before .loop-test .taken) ∙ l .inv .1),
@@ -53,7 +53,7 @@ returns : tie.Need-returns Inv-loop μ-loop
 returns c =
     let a = c .before .before .before .before .args in
     let l = c .before .loop in
-    let shifts = c .before .before .from in
+    let shifts = c .before .before .tail in
     rw (← shifts .ensures)
     (sym (added-done shiftBytes shiftOf (addShift (a .font) (a .size)) (l .k) (shifts .result .now) (l .sum) (c .loop-test .left))
     ∙ l .inv .1
@@ -65,7 +65,7 @@ resolve-baseline-shift-spec =
     (tie.spec
     Inv-loop
     μ-loop
-    from-requires
+    tail-requires
     loop-holds
     sub-k
     mul-baseline-shift-at

@@ -4,7 +4,7 @@ use mathlib.Core.Path.{_≡_}
 use mathlib.Core.List.{List}
 use native.Mathlib.Omega.{arith}
 use lib.ListN.{length, take}
-use Rattle.forming.proofs.FewClusters.{few-clusters}
+use Rattle.clustering.proofs.FewClusters.{clusters-at-most}
 use Rattle.chunk.specs.Checked.{SpannedChunk, OwnMerged, MergedChunk}
 use Rattle.chunk.proofs.Spans.{lent-length, shape-of, spanned-of}
 use Rattle.chunk.proofs.Merging.{own-within, own-alone, own-few, own-merged, merged-laid}
@@ -127,7 +127,7 @@ chunk-of-32-requires : tie.Need-chunk-of-32-requires
 chunk-of-32-requires c κs =
     let list = c .before .before .before in
     let at = here (one list) in
-    (omega (arith, few-clusters (s at) (spans at) (take (list .list-own .result) (rows list)), lent-length (rows list) (held list), few-rows list), merged list)
+    (omega (arith, clusters-at-most (s at) (spans at) (take (list .list-own .result) (rows list)), lent-length (rows list) (held list), few-rows list), merged list)
 
 same-length-3 : tie.Need-same-length-3
 same-length-3 c = search needs

@@ -33,7 +33,7 @@ module _ (c : tie.After-list-own) where
   merged : MergedChunk (a .args .s .now) (a .args .next) (a .args .spans .now) (take (c .list-own .result) rows)
   merged = own-merged (a .pre .0) (a .args .own) (a .pre .1) rows (c .list-own .ensures .1) (c .list-own .ensures .2)
 
-abbrev listed : tie.After-few-clusters → tie.After-list-own
+abbrev listed : tie.After-clusters-at-most → tie.After-list-own
 listed c = c .before .before .before
 
 array-share-prefix-rows : tie.Need-array-share-prefix-rows
@@ -42,13 +42,13 @@ array-share-prefix-rows c = held (c .before)
 slice-aggregate-glyphs : tie.Need-slice-aggregate-glyphs
 slice-aggregate-glyphs c = lent-length (rows (c .before .before)) (held (c .before .before))
 
-few-clusters-requires : tie.Need-few-clusters-requires
-few-clusters-requires c κs = search needs
+clusters-at-most-requires : tie.Need-clusters-at-most-requires
+clusters-at-most-requires c κs = search needs
 
 chunk-of-64-requires : tie.Need-chunk-of-64-requires
 chunk-of-64-requires c κs =
     let test = c .before .before in
-    (leb-true _ 64 (rw (← test .few-clusters .ensures) (c .before .if1 .taken)), merged (listed test))
+    (leb-true _ 64 (rw (← test .clusters-at-most .ensures) (c .before .if1 .taken)), merged (listed test))
 
 same-length : tie.Need-same-length
 same-length c = search needs
@@ -77,7 +77,7 @@ listed-chunk-spec =
     list-own-requires
     array-share-prefix-rows
     slice-aggregate-glyphs
-    few-clusters-requires
+    clusters-at-most-requires
     chunk-of-64-requires
     same-length
     returns

@@ -5,7 +5,7 @@ use mathlib.Core.List.{List}
 use native.Mathlib.Omega.{arith}
 use lib.ListN.{length, take, length-replicate}
 use borrow.Author.Tests.{leb-true}
-use Rattle.forming.proofs.FewClusters.{few-clusters}
+use Rattle.clustering.proofs.FewClusters.{clusters-at-most}
 use Rattle.chunk.specs.Checked.{MergedChunk}
 use Rattle.chunk.proofs.Spans.{lent-length}
 use Rattle.chunk.proofs.Merging.{few-glyphs, list-merged, refused-laid, merged-laid}
@@ -19,7 +19,7 @@ start c = c .before .before .before .before .before
 abbrev given : tie.After-glyphs → tie.After-n
 given c = c .before .before .before .before .before
 
-abbrev longer : tie.After-few-clusters → tie.After-glyphs
+abbrev longer : tie.After-clusters-at-most → tie.After-glyphs
 longer c = c .before .before
 
 process-chunk-requires : tie.Need-process-chunk-requires
@@ -62,7 +62,7 @@ slice-aggregate-glyphs c = let merge = c .before .before .before .before .before
 chunk-of-32-requires : tie.Need-chunk-of-32-requires
 chunk-of-32-requires c κs =
     let merge = given (c .before .before) in
-    (omega (arith, few-clusters (a merge .args .s .now) (a merge .args .spans .now) (glyphs merge), lent-length (rows merge) (held merge), c .before .if1 .taken), merged merge)
+    (omega (arith, clusters-at-most (a merge .args .s .now) (a merge .args .spans .now) (glyphs merge), lent-length (rows merge) (held merge), c .before .if1 .taken), merged merge)
 
 same-length : tie.Need-same-length
 same-length c = search needs
@@ -72,13 +72,13 @@ returns-2 c =
     let call = c .before .before in
     merged-laid (merged (given (call .before .before .before))) (call .chunk-of-32 .ensures)
 
-few-clusters-requires : tie.Need-few-clusters-requires
-few-clusters-requires c κs = search needs
+clusters-at-most-requires : tie.Need-clusters-at-most-requires
+clusters-at-most-requires c κs = search needs
 
 chunk-of-64-requires : tie.Need-chunk-of-64-requires
 chunk-of-64-requires c κs =
     let test = c .before .before in
-    (leb-true _ 64 (rw (← test .few-clusters .ensures) (c .before .if2 .taken)), merged (given (longer test)))
+    (leb-true _ 64 (rw (← test .clusters-at-most .ensures) (c .before .if2 .taken)), merged (given (longer test)))
 
 same-length-2 : tie.Need-same-length-2
 same-length-2 c = search needs
@@ -111,7 +111,7 @@ merged-chunk-spec =
     chunk-of-32-requires
     same-length
     returns-2
-    few-clusters-requires
+    clusters-at-most-requires
     chunk-of-64-requires
     same-length-2
     returns-3

@@ -3,15 +3,15 @@ use Prim.Native.Nat.{_≤_}
 use mathlib.Core.Path.{ap, _∙_}
 use native.Mathlib.Omega.{arith}
 use lib.ListN.{length}
-use Rattle.labels.specs.Job.{limits}
+use Rattle.spec.specs.Job.{limits}
 use Rattle.job_rows.proofs.ByNumber.{length-places}
 use Rattle.chunk.proofs.Spans.{lent-length, own-back, few-spans, places-of}
 use borrow.Author.Needs.{needs}
 use Rattle.chunk.proofs.find.find_spans.Statement.{statement}
 use Rattle.chunk.proofs.find.find_spans.Tie as tie
 
-from-requires : tie.Need-from-requires
-from-requires c κs = search needs
+tail-requires : tie.Need-tail-requires
+tail-requires c κs = search needs
 
 span-count-requires : tie.Need-span-count-requires
 span-count-requires c κs = search needs
@@ -30,7 +30,7 @@ start c = c .before .before .before .before .before
 
 module _ (c : tie.After-spans-at) where
   few : c .before .span-count .result ≤ limits .spans
-  few = few-spans (start c .pre .0) (c .before .before .from .ensures) (c .before .span-count .ensures .0)
+  few = few-spans (start c .pre .0) (c .before .before .tail .ensures) (c .before .span-count .ensures .0)
 
   held : c .before .span-count .result ≤ length (start c .args .places .now)
   held = omega (arith, few, start c .pre .1)
@@ -56,14 +56,14 @@ returns c =
     let same = ap length (put .span-places .ensures) ∙ length-places _ _ _ in
     record {
       few = few count;
-      parts = rw (own-back places _ all same) (places-of (start count .pre .0) (count .before .before .from .ensures) _ (count .spans-at .ensures .0) (count .before .span-count .ensures .0) (lent-length places all) (put .span-places .ensures));
+      parts = rw (own-back places _ all same) (places-of (start count .pre .0) (count .before .before .tail .ensures) _ (count .spans-at .ensures .0) (count .before .span-count .ensures .0) (lent-length places all) (put .span-places .ensures));
     }
 
 pub find-spans-spec : {M : Type 1} → statement M
 find-spans-spec =
     tie.close
     (tie.spec
-    from-requires
+    tail-requires
     span-count-requires
     spans-at-requires
     add-first

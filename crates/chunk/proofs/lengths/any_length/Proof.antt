@@ -7,9 +7,9 @@ use mathlib.Core.List.{List}
 use native.Mathlib.Omega.{arith}
 use lib.ListN.{length, drop}
 use borrow.Author.Needs.{needs}
-use Rattle.labels.specs.Lists.{any}
-use Rattle.labels.specs.Decode.{spanOf}
-use Rattle.labels.proofs.Loops.{any-here, any-on, any-none}
+use Rattle.spec.specs.Lists.{any}
+use Rattle.spec.specs.Decode.{spanOf}
+use Rattle.spec.proofs.Loops.{any-here, any-on, any-none}
 use Rattle.job_rows.specs.Rows.{spansIn}
 use Rattle.spacing.proofs.Tests.{any-map}
 use Rattle.chunk.specs.Sure.{lengthAsked}

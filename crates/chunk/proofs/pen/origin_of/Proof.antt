@@ -1,12 +1,12 @@
 -- `chunk::pen::origin_of` meets its contract. Assumes nothing.
 use mathlib.Core.Path.{refl}
-use Rattle.labels.specs.Decode.{chunkOf}
+use Rattle.spec.specs.Decode.{chunkOf}
 use borrow.Author.Needs.{needs}
 use Rattle.chunk.proofs.pen.origin_of.Statement.{statement}
 use Rattle.chunk.proofs.pen.origin_of.Tie as tie
 
-from-requires : tie.Need-from-requires
-from-requires c κs = search needs
+tail-requires : tie.Need-tail-requires
+tail-requires c κs = search needs
 
 u8-at-requires : tie.Need-u8-at-requires
 u8-at-requires c κs = search needs
@@ -27,14 +27,14 @@ returns : tie.Need-returns
 unfolding chunkOf
 returns c =
     let flags = c .before .before .before .before .u8-at in
-    let chunk = c .before .before .before .before .before .from in
+    let chunk = c .before .before .before .before .before .tail in
     rw (c .own-or2 .ensures, c .before .before .own-or .ensures, c .before .f32-at2 .ensures, c .before .before .before .f32-at .ensures, flags .ensures, chunk .ensures) refl
 
 pub origin-of-spec : {M : Type 1} → statement M
 origin-of-spec =
     tie.close
     (tie.spec
-    from-requires
+    tail-requires
     u8-at-requires
     f32-at-requires
     own-or-requires

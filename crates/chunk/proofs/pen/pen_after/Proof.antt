@@ -1,6 +1,6 @@
 -- `chunk::pen::pen_after` meets its contract. Assumes nothing.
 use borrow.Author.Tests.{eq-eqb, ne-eqb}
-use Rattle.labels.specs.Layout.{penAfter}
+use Rattle.spec.specs.Layout.{penAfter}
 use Rattle.chunk.proofs.pen.pen_after.Statement.{statement}
 use Rattle.chunk.proofs.pen.pen_after.Tie as tie
 

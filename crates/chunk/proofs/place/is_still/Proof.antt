@@ -4,9 +4,9 @@ use mathlib.Core.Path.{_≡_, refl}
 use mathlib.Core.List.{List}
 use lib.Dec.{eqb}
 use lib.ListN.{drop}
-use Rattle.labels.specs.Lists.{isEmpty}
-use Rattle.labels.specs.Bytes.{be, float}
-use Rattle.labels.specs.Decode.{floatSize, listOf}
+use Rattle.spec.specs.Lists.{isEmpty}
+use Rattle.spec.specs.Bytes.{be, float}
+use Rattle.spec.specs.Decode.{floatSize, listOf}
 use Rattle.job_rows.proofs.Walks.{rows-empty}
 use borrow.Author.Needs.{needs}
 use Rattle.chunk.proofs.place.is_still.Statement.{statement}

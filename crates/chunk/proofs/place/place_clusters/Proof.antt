@@ -5,8 +5,8 @@ use Prim.Native.Nat.{ℕ}
 use mathlib.Core.Path.{sym, ap, _∙_}
 use mathlib.Core.List.{List, map}
 use native.Mathlib.Omega.{arith}
-use Rattle.labels.specs.Position.{characterNumber}
-use Rattle.clusters.specs.Clusters.{indexesIn}
+use Rattle.spec.specs.Position.{characterNumber}
+use Rattle.cluster_table.specs.Clusters.{indexesIn}
 use Rattle.text_order.specs.Ordered.{Ordered}
 use Rattle.text_order.proofs.Order.{ordered-sorted}
 use Rattle.chunk.specs.Steps.{chunkIn}
@@ -21,10 +21,10 @@ use Rattle.chunk.proofs.place.place_clusters.Tie as tie
 abbrev start : tie.After-is-still → tie.Start
 start c = c .before .before .before .before .before .before .before .before
 
-abbrev still : tie.After-turn-shifts → tie.After-is-still
+abbrev still : tie.After-rotate-shifts → tie.After-is-still
 still c = c .before .before .before .before
 
-abbrev turned : tie.After-cluster-at → tie.After-turn-shifts
+abbrev turned : tie.After-cluster-at → tie.After-rotate-shifts
 turned c = c .before .before .before .before
 
 abbrev moved : tie.After-logical-order → tie.After-is-still
@@ -44,8 +44,8 @@ anchor-at-requires c κs = search needs
 is-still-requires : tie.Need-is-still-requires
 is-still-requires c κs = search needs
 
-turn-shifts-requires : tie.Need-turn-shifts-requires
-turn-shifts-requires c κs = search needs
+rotate-shifts-requires : tie.Need-rotate-shifts-requires
+rotate-shifts-requires c κs = search needs
 
 cluster-at-requires : tie.Need-cluster-at-requires
 cluster-at-requires c κs = search needs
@@ -55,7 +55,7 @@ positioned-between-requires c κs =
     let any = c .before .before in
     let turn = turned any in
     let given = start (still turn) .pre in
-    still-ended _ (given .unmoved) (turn .turn-shifts .ensures) (given .some) (omega (arith, turn .turn-shifts .kept .1 .0, given .rows)) (given .sortable .rows) (any .cluster-at .result)
+    still-ended _ (given .unmoved) (turn .rotate-shifts .ensures) (given .some) (omega (arith, turn .rotate-shifts .kept .1 .0, given .rows)) (given .sortable .rows) (any .cluster-at .result)
     (any .cluster-at .ensures)
 
 same-length : tie.Need-same-length
@@ -71,7 +71,7 @@ returns c =
     let test = turn .before .before .before in
     let still = test .before in
     let a = start still .args in
-    still-placed (a .s .now) (a .next) (still .is-still .ensures) (test .if1 .taken) (start still .pre .unmoved) (still .before .anchor-at .ensures) (turn .turn-shifts .ensures) (placed .positioned-between .ensures)
+    still-placed (a .s .now) (a .next) (still .is-still .ensures) (test .if1 .taken) (start still .pre .unmoved) (still .before .anchor-at .ensures) (turn .rotate-shifts .ensures) (placed .positioned-between .ensures)
 
 logical-order-requires : tie.Need-logical-order-requires
 logical-order-requires c κs = search needs
@@ -126,7 +126,7 @@ place-clusters-spec =
     (tie.spec
     anchor-at-requires
     is-still-requires
-    turn-shifts-requires
+    rotate-shifts-requires
     cluster-at-requires
     positioned-between-requires
     same-length

@@ -5,19 +5,19 @@ use mathlib.Core.List.{List}
 use native.Mathlib.Omega.{arith}
 use lib.ListN.{length, take}
 use lib.Seq.{length-take-le}
-use Rattle.laws.proofs.Unmoved.{adjusted-unmoved}
-use Rattle.labels.specs.Outcome.{given}
-use Rattle.labels.specs.Decode.{chunkOf}
-use Rattle.labels.specs.Answer.{ChunkRow, chunkRowBytes}
-use Rattle.labels.specs.Layout.{adjustedClusters}
+use Rattle.spec_laws.proofs.Unmoved.{adjusted-unmoved}
+use Rattle.spec.specs.Outcome.{given}
+use Rattle.spec.specs.Decode.{chunkOf}
+use Rattle.spec.specs.Answer.{ChunkRow, chunkRowBytes}
+use Rattle.spec.specs.Layout.{adjustedClusters}
 use Rattle.job_rows.specs.Rows.{glyphsAt}
-use Rattle.clusters.specs.Clusters.{clustersOf, indexesIn}
-use Rattle.clusters.proofs.Rows.{clusters-length}
+use Rattle.cluster_table.specs.Clusters.{clustersOf, indexesIn}
+use Rattle.cluster_table.proofs.Rows.{clusters-length}
 use Rattle.text_order.specs.Ordered.{Sortable}
 use Rattle.text_order.proofs.Order.{sortable-still}
 use Rattle.length_adjust.specs.Answer.{adjustedOf}
-use Rattle.answer.proofs.ChunkRows.{empty-length}
-use Rattle.answer.specs.Chunks.{chunkRowMost, rowAt}
+use Rattle.answer_rows.proofs.ChunkRows.{empty-length}
+use Rattle.answer_rows.specs.Chunks.{chunkRowMax, rowAt}
 use Rattle.chunk.specs.Steps.{jobIn, chunkIn}
 use Rattle.chunk.specs.Checked.{TablesFor}
 use Rattle.chunk.proofs.Checked.{few-bytes, widths-ok, units-ok}
@@ -113,8 +113,8 @@ module _ (c : tie.After-adjust-lengths) where
 
 -- ---- steps 2 to 6
 
-from-requires : tie.Need-from-requires
-from-requires c κs = search needs
+tail-requires : tie.Need-tail-requires
+tail-requires c κs = search needs
 
 text-of-requires : tie.Need-text-of-requires
 text-of-requires c κs = search needs
@@ -185,7 +185,7 @@ told : (c : tie.After-adjust-lengths) → let a = tables (form c) .args in let a
     ≡ adjustedClusters (jobIn (a .s .now) (a .next)) (chunkIn (a .s .now) (a .next)) (glyphsAt (a .s .now) (a .merged .now))
 told c =
     let text = begun (form c) in
-    let text-is = text .text-of .ensures ∙ ap (λ (bs : List ℕ). chunkOf bs .text) (text .before .from .ensures) in
+    let text-is = text .text-of .ensures ∙ ap (λ (bs : List ℕ). chunkOf bs .text) (text .before .tail .ensures) in
     let word = worded c in
     c .adjust-lengths .ensures
     ∙ adjusted-is (start text .args .merged .now) (start text .pre .0 .spanned) text-is (form c .form-clusters .ensures .clusters) (turned (spaced word) .apply-writing-mode .ensures)
@@ -237,7 +237,7 @@ module _ (c : tie.After-enum-told) where
 
 -- the text is the chunk's, and short
 text-is : (c : tie.After-text-of) → let a = start c .args in c .text-of .result .now ≡ chunkIn (a .s .now) (a .next) .text
-text-is c = c .text-of .ensures ∙ ap (λ (bs : List ℕ). chunkOf bs .text) (c .before .from .ensures)
+text-is c = c .text-of .ensures ∙ ap (λ (bs : List ℕ). chunkOf bs .text) (c .before .tail .ensures)
 
 text-short : (c : tie.After-text-of) → length (c .text-of .result .now) ≤ 4096
 text-short c = rw (text-is c) (few-bytes (start c .pre .0 .spanned .checked))
@@ -358,7 +358,7 @@ module _ (c : tie.After-pen-after) where
       (c .before .origin-of .result) (c .pen-after .result) (c .before .origin-of .ensures) (c .pen-after .ensures))
 
   -- which is no longer than the longest
-  row-short : let args = tables (form (done before)) .args in length (chunkRowBytes row) ≤ chunkRowMost (length (args .spans .now)) (length (args .merged .now)) n
+  row-short : let args = tables (form (done before)) .args in length (chunkRowBytes row) ≤ chunkRowMax (length (args .spans .now)) (length (args .merged .now)) n
   row-short =
       let given = tables (form (done before)) .pre .0 in
       let short = placed-short given _ (given-is before) in
@@ -433,7 +433,7 @@ pub layout-merged-spec : {M : Type 1} → statement M
 layout-merged-spec =
     tie.close
     (tie.spec
-    from-requires
+    tail-requires
     text-of-requires
     form-clusters-requires
     apply-writing-mode-requires

@@ -21,8 +21,8 @@ loop-holds c = search needs
 sub-loop : tie.Need-sub-loop Inv-loop μ-loop
 sub-loop c = search needs
 
-from-requires : tie.Need-from-requires Inv-loop μ-loop
-from-requires c κs = search needs
+tail-requires : tie.Need-tail-requires Inv-loop μ-loop
+tail-requires c κs = search needs
 
 feed-row-requires : tie.Need-feed-row-requires Inv-loop μ-loop
 feed-row-requires c κs = search needs
@@ -51,7 +51,7 @@ feed-rows-spec =
     empty-requires
     loop-holds
     sub-loop
-    from-requires
+    tail-requires
     feed-row-requires
     add-at
     loop-less

@@ -1,9 +1,9 @@
 -- `job_rows::numbered::float_in` meets its contract. Assumes nothing.
 use native.Mathlib.Omega.{arith}
 use mathlib.Core.Path.{_∙_}
-use Rattle.labels.specs.Single.{+0}
-use Rattle.labels.specs.Bytes.{float}
-use Rattle.labels.specs.Decode.{floatSize, listOf}
+use Rattle.spec.specs.Single.{+0}
+use Rattle.spec.specs.Bytes.{float}
+use Rattle.spec.specs.Decode.{floatSize, listOf}
 use Rattle.job_rows.proofs.ByNumber.{row-in, row-past}
 use borrow.Author.Needs.{needs}
 use Rattle.job_rows.proofs.numbered.float_in.Statement.{statement}

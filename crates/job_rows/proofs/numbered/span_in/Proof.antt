@@ -1,7 +1,7 @@
 -- `job_rows::numbered::span_in` meets its contract. Assumes nothing.
 use native.Mathlib.Omega.{arith}
 use mathlib.Core.Path.{sym}
-use Rattle.labels.specs.Job.{blankSpan}
+use Rattle.spec.specs.Job.{blankSpan}
 use Rattle.job_rows.specs.Rows.{spansIn}
 use Rattle.job_rows.proofs.ByNumber.{map-in, map-past}
 use borrow.Author.Needs.{needs}

@@ -25,14 +25,14 @@ mul-places c = search needs
 slice-write-places : tie.Need-slice-write-places Inv-loop μ-loop
 slice-write-places c = search needs
 
-from-requires : tie.Need-from-requires Inv-loop μ-loop
-from-requires c κs = search needs
+tail-requires : tie.Need-tail-requires Inv-loop μ-loop
+tail-requires c κs = search needs
 
 span-size-requires : tie.Need-span-size-requires Inv-loop μ-loop
 span-size-requires c κs = search needs
 
-after-requires : tie.Need-after-requires Inv-loop μ-loop
-after-requires c κs = search needs
+offset-after-requires : tie.Need-offset-after-requires Inv-loop μ-loop
+offset-after-requires c κs = search needs
 
 add-i : tie.Need-add-i Inv-loop μ-loop
 add-i c = search needs
@@ -46,7 +46,7 @@ loop-again c =
     let l = c .before .before .before .before .loop in (
       simp length-set (l .inv .0),
       simp length-set (omega arith),
-      placed-turn (a .s .now) (l .places) (l .i) (l .p) (omega arith) (c .before .before .from .ensures) (c .before .span-size .ensures .0) (c .after .ensures)
+      placed-turn (a .s .now) (l .places) (l .i) (l .p) (omega arith) (c .before .before .tail .ensures) (c .before .span-size .ensures .0) (c .offset-after .ensures)
           ∙ l .inv .2,
     )
 
@@ -67,9 +67,9 @@ span-places-spec =
     loop-holds
     mul-places
     slice-write-places
-    from-requires
+    tail-requires
     span-size-requires
-    after-requires
+    offset-after-requires
     add-i
     loop-less
     loop-again

@@ -1,8 +1,8 @@
 -- `job_rows::numbered::units_in` meets its contract. Assumes nothing.
 use native.Mathlib.Omega.{arith}
 use mathlib.Core.Path.{ap, _∙_}
-use Rattle.labels.specs.declared.Font.{Font}
-use Rattle.labels.specs.Decode.{fontOf}
+use Rattle.spec.specs.declared.Font.{Font}
+use Rattle.spec.specs.Decode.{fontOf}
 use Rattle.job_rows.proofs.ByNumber.{font-here, font-past}
 use borrow.Author.Needs.{needs}
 use Rattle.job_rows.proofs.numbered.units_in.Statement.{statement}

@@ -1,5 +1,5 @@
 -- `job_rows::rows::font_of` meets its contract: field by field. Assumes nothing.
-use Rattle.labels.specs.Decode.{fontOf}
+use Rattle.spec.specs.Decode.{fontOf}
 use mir.Facts.{toZ-ofZ}
 use mathlib.Core.Path.{_≡_, _∙_}
 use mir.Syntax.{w16}

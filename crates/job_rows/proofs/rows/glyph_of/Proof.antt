@@ -1,5 +1,5 @@
 -- `job_rows::rows::glyph_of` meets its contract: field by field. Assumes nothing.
-use Rattle.labels.specs.Decode.{glyphOf}
+use Rattle.spec.specs.Decode.{glyphOf}
 use mir.Facts.{toZ-ofZ}
 use mathlib.Core.Path.{_≡_, _∙_}
 use mir.Syntax.{w32}

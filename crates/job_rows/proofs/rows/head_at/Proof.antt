@@ -5,8 +5,8 @@ use borrow.Author.Needs.{needs}
 use Rattle.job_rows.proofs.rows.head_at.Statement.{statement}
 use Rattle.job_rows.proofs.rows.head_at.Tie as tie
 
-from-requires : tie.Need-from-requires
-from-requires c κs = search needs
+tail-requires : tie.Need-tail-requires
+tail-requires c κs = search needs
 
 u8-at-requires : tie.Need-u8-at-requires
 u8-at-requires c κs = search needs
@@ -32,7 +32,7 @@ span-count-requires c κs = search needs
 returns : tie.Need-returns
 unfolding headOf
 returns c =
-    let row = c .before .before .before .before .before .before .before .from in
+    let row = c .before .before .before .before .before .before .before .tail in
     let read = headOf (row .result .now) in
     let flags : _ ≡ read .flags = c .before .before .before .before .before .before .u8-at .ensures in
     let x : _ ≡ read .x = c .before .before .before .before .before .f32-at .ensures in
@@ -47,7 +47,7 @@ pub head-at-spec : {M : Type 1} → statement M
 head-at-spec =
     tie.close
     (tie.spec
-    from-requires
+    tail-requires
     u8-at-requires
     f32-at-requires
     f32-at-requires-2

@@ -1,5 +1,5 @@
 -- `job_rows::rows::shift_kind_at` meets its contract. Assumes nothing.
-use Rattle.labels.specs.Decode.{shiftOf}
+use Rattle.spec.specs.Decode.{shiftOf}
 use mathlib.Core.Path.{refl}
 use borrow.Author.Needs.{needs}
 use Rattle.job_rows.proofs.rows.shift_kind_at.Statement.{statement}

@@ -1,5 +1,5 @@
 -- `job_rows::rows::span_of` meets its contract: field by field. Assumes nothing.
-use Rattle.labels.specs.Decode.{spanOf}
+use Rattle.spec.specs.Decode.{spanOf}
 use mathlib.Core.Path.{_≡_}
 use borrow.Author.Needs.{needs}
 use Rattle.job_rows.proofs.rows.span_of.Statement.{statement}

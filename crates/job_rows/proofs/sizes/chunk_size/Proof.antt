@@ -1,5 +1,5 @@
 -- `job_rows::sizes::chunk_size` meets its contract. Assumes nothing.
-use Rattle.labels.specs.Decode.{chunkSize}
+use Rattle.spec.specs.Decode.{chunkSize}
 use mathlib.Core.Path.{refl}
 use borrow.Author.Needs.{needs}
 use Rattle.job_rows.proofs.sizes.chunk_size.Statement.{statement}

@@ -1,5 +1,5 @@
 -- `job_rows::sizes::font_count` meets its contract. Assumes nothing.
-use Rattle.labels.specs.Decode.{fontCount}
+use Rattle.spec.specs.Decode.{fontCount}
 use mathlib.Core.Path.{refl}
 use borrow.Author.Needs.{needs}
 use Rattle.job_rows.proofs.sizes.font_count.Statement.{statement}

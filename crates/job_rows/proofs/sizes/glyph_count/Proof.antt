@@ -1,5 +1,5 @@
 -- `job_rows::sizes::glyph_count` meets its contract. Assumes nothing.
-use Rattle.labels.specs.Decode.{glyphCount}
+use Rattle.spec.specs.Decode.{glyphCount}
 use mathlib.Core.Path.{refl}
 use borrow.Author.Needs.{needs}
 use Rattle.job_rows.proofs.sizes.glyph_count.Statement.{statement}

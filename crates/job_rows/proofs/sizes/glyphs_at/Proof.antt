@@ -1,5 +1,5 @@
 -- `job_rows::sizes::glyphs_at` meets its contract. Assumes nothing.
-use Rattle.labels.specs.Decode.{glyphsAt}
+use Rattle.spec.specs.Decode.{glyphCountAt}
 use mathlib.Core.Path.{refl}
 use borrow.Author.Needs.{needs}
 use Rattle.job_rows.proofs.sizes.glyphs_at.Statement.{statement}
@@ -15,7 +15,7 @@ add-result : tie.Need-add-result
 add-result c = search needs
 
 returns : tie.Need-returns
-unfolding glyphsAt
+unfolding glyphCountAt
 returns c = (rw (c .shift-count .ensures .0) refl, search needs)
 
 pub glyphs-at-spec : {M : Type 1} → statement M

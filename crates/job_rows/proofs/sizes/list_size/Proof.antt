@@ -1,5 +1,5 @@
 -- `job_rows::sizes::list_size` meets its contract. Assumes nothing.
-use Rattle.labels.specs.Decode.{listSize}
+use Rattle.spec.specs.Decode.{listSize}
 use mathlib.Core.Path.{refl}
 use borrow.Author.Needs.{needs}
 use Rattle.job_rows.proofs.sizes.list_size.Statement.{statement}

@@ -1,5 +1,5 @@
 -- `job_rows::sizes::shift_count` meets its contract. Assumes nothing.
-use Rattle.labels.specs.Decode.{shiftCount}
+use Rattle.spec.specs.Decode.{shiftCount}
 use mathlib.Core.Path.{refl}
 use borrow.Author.Needs.{needs}
 use Rattle.job_rows.proofs.sizes.shift_count.Statement.{statement}

@@ -1,5 +1,5 @@
 -- `job_rows::sizes::span_bytes` meets its contract. Assumes nothing.
-use Rattle.labels.specs.Decode.{spanBytes}
+use Rattle.spec.specs.Decode.{spanBytes}
 use mathlib.Core.Path.{refl}
 use borrow.Author.Needs.{needs}
 use Rattle.job_rows.proofs.sizes.span_bytes.Statement.{statement}
@@ -8,15 +8,15 @@ use Rattle.job_rows.proofs.sizes.span_bytes.Tie as tie
 spans-at-requires : tie.Need-spans-at-requires
 spans-at-requires c κs = search needs
 
-add-from : tie.Need-add-from
-add-from c = search needs
+add-tail : tie.Need-add-tail
+add-tail c = search needs
 
-from-requires : tie.Need-from-requires
-from-requires c κs = search needs
+tail-requires : tie.Need-tail-requires
+tail-requires c κs = search needs
 
 returns : tie.Need-returns
 unfolding spanBytes
-returns c = rw (c .from .ensures, c .before .spans-at .ensures .0) refl
+returns c = rw (c .tail .ensures, c .before .spans-at .ensures .0) refl
 
 pub span-bytes-spec : {M : Type 1} → statement M
-span-bytes-spec = tie.close (tie.spec spans-at-requires add-from from-requires returns)
+span-bytes-spec = tie.close (tie.spec spans-at-requires add-tail tail-requires returns)

@@ -1,5 +1,5 @@
 -- `job_rows::sizes::span_count` meets its contract. Assumes nothing.
-use Rattle.labels.specs.Decode.{spanCount}
+use Rattle.spec.specs.Decode.{spanCount}
 use mathlib.Core.Path.{refl}
 use borrow.Author.Needs.{needs}
 use Rattle.job_rows.proofs.sizes.span_count.Statement.{statement}

@@ -1,5 +1,5 @@
 -- `job_rows::sizes::span_size` meets its contract. Assumes nothing.
-use Rattle.labels.specs.Decode.{spanSize}
+use Rattle.spec.specs.Decode.{spanSize}
 use mathlib.Core.Path.{refl}
 use borrow.Author.Needs.{needs}
 use Rattle.job_rows.proofs.sizes.span_size.Statement.{statement}

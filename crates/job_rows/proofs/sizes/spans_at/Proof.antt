@@ -1,5 +1,5 @@
 -- `job_rows::sizes::spans_at` meets its contract. Assumes nothing.
-use Rattle.labels.specs.Decode.{spansAt}
+use Rattle.spec.specs.Decode.{spanCountAt}
 use mathlib.Core.Path.{refl}
 use borrow.Author.Needs.{needs}
 use Rattle.job_rows.proofs.sizes.spans_at.Statement.{statement}
@@ -12,7 +12,7 @@ add-result : tie.Need-add-result
 add-result c = search needs
 
 returns : tie.Need-returns
-unfolding spansAt
+unfolding spanCountAt
 returns c = (rw (c .text-size .ensures .0) refl, search needs)
 
 pub spans-at-spec : {M : Type 1} → statement M

@@ -1,5 +1,5 @@
 -- `job_rows::sizes::text_size` meets its contract. Assumes nothing.
-use Rattle.labels.specs.Decode.{textSize}
+use Rattle.spec.specs.Decode.{textSize}
 use mathlib.Core.Path.{refl}
 use borrow.Author.Needs.{needs}
 use Rattle.job_rows.proofs.sizes.text_size.Statement.{statement}

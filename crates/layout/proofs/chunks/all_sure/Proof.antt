@@ -2,9 +2,9 @@
 use Prim.Native.Nat.{ℕ, _+_}
 use mathlib.Core.Path.{_≡_, refl, sym, ap, _∙_}
 use native.Mathlib.Omega.{arith}
-use Rattle.laws.proofs.Tests.{failed, passed}
-use Rattle.labels.specs.Lists.{all}
-use Rattle.labels.specs.Decode.{chunkSize}
+use Rattle.spec_laws.proofs.Tests.{failed, passed}
+use Rattle.spec.specs.Lists.{all}
+use Rattle.spec.specs.Decode.{chunkSize}
 use Rattle.chunk.specs.Sure.{sure}
 use Rattle.layout.proofs.ChunksLeft.{chunksLeft}
 use Rattle.layout.proofs.Straight.{Asking, asked-chunk, asked-no, asked-on, asked-all}
@@ -40,14 +40,14 @@ returns c =
     let none = asked-no _ (turn .loop .inv) (omega arith) (failed (asked .is-sure .ensures) (c .if1 .taken)) in
     none ∙ ap (all sure) (ap (λ (n : ℕ). chunksLeft (start .args .s .now) (start .args .job .chunks + 1) n) (turn .before .count-of .ensures .0))
 
-from-requires : tie.Need-from-requires Inv-loop μ-loop
-from-requires c κs = search needs
+tail-requires : tie.Need-tail-requires Inv-loop μ-loop
+tail-requires c κs = search needs
 
 chunk-size-requires : tie.Need-chunk-size-requires Inv-loop μ-loop
 chunk-size-requires c κs = search needs
 
-after-requires : tie.Need-after-requires Inv-loop μ-loop
-after-requires c κs = search needs
+offset-after-requires : tie.Need-offset-after-requires Inv-loop μ-loop
+offset-after-requires c κs = search needs
 
 sub-left : tie.Need-sub-left Inv-loop μ-loop
 sub-left c = search needs
@@ -59,7 +59,7 @@ loop-again : tie.Need-loop-again Inv-loop μ-loop
 loop-again c =
     let l = c .before .before .before .before .before .before .loop in
     let k = c .before .chunk-size in
-    asked-on _ (l .inv) (omega arith) (passed (c .before .before .before .before .is-sure .ensures) (c .before .before .before .if1 .left)) (k .result) (c .after .result) (k .ensures .0 ∙ ap chunkSize (c .before .before .from .ensures)) (c .after .ensures)
+    asked-on _ (l .inv) (omega arith) (passed (c .before .before .before .before .is-sure .ensures) (c .before .before .before .if1 .left)) (k .result) (c .offset-after .result) (k .ensures .0 ∙ ap chunkSize (c .before .before .tail .ensures)) (c .offset-after .ensures)
 
 returns-2 : tie.Need-returns-2 Inv-loop μ-loop
 returns-2 c =
@@ -79,9 +79,9 @@ all-sure-spec =
     loop-holds
     is-sure-requires
     returns
-    from-requires
+    tail-requires
     chunk-size-requires
-    after-requires
+    offset-after-requires
     sub-left
     loop-less
     loop-again

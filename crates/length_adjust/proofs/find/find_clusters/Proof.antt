@@ -7,9 +7,9 @@ use native.Mathlib.Omega.{arith}
 use lib.ListN.{length, getD, set, drop, length-set, drop-of-length-le}
 use lib.Seq.{drop-cons, set-out}
 use borrow.Author.Tests.{leb-true}
-use Rattle.laws.proofs.All.{first, all-weaken, true-all}
-use Rattle.labels.specs.Lists.{All}
-use Rattle.sorting.proofs.Ascending.{ascends-of-ascending}
+use Rattle.spec_laws.proofs.All.{first, all-weaken, true-all}
+use Rattle.spec.specs.Lists.{All}
+use Rattle.sort.proofs.Ascending.{ascends-of-ascending}
 use Rattle.length_adjust.specs.Marks.{mark, below, placeFor, found, bytesTo}
 use Rattle.length_adjust.proofs.Passed.{next-here, place-other, place-here}
 use Rattle.length_adjust.proofs.Search.{left-from, bytes-turn, found-turn}

@@ -3,8 +3,8 @@ use Prim.Native.Nat.{ℕ, _/_, _%_, _≤_}
 use mathlib.Core.Path.{ap, _∙_}
 use lib.ListN.{length}
 use borrow.Author.Tests.{le-leb, ltb-true}
-use Rattle.laws.proofs.All.{all-weaken, all-true, true-all}
-use Rattle.sorting.proofs.Ascending.{ascends-of-ascending, ascending-of-ascends}
+use Rattle.spec_laws.proofs.All.{all-weaken, all-true, true-all}
+use Rattle.sort.proofs.Ascending.{ascends-of-ascending, ascending-of-ascends}
 use Rattle.length_adjust.specs.Marks.{marked, takingPart}
 use Rattle.length_adjust.proofs.Passed.{own-all, own-ascends, own-from}
 use Rattle.length_adjust.proofs.Bytes.{own-looked}

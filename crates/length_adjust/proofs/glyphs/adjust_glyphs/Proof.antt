@@ -1,9 +1,9 @@
 -- `length_adjust::glyphs::adjust_glyphs` meets its contract. Assumes nothing.
 use mathlib.Core.Path.{_≡_, sym, _∙_}
 use lib.ListN.{length}
-use Rattle.labels.specs.LengthAdjust.{sumAt, widthOf}
-use Rattle.labels.specs.Cluster.{rounded}
-use Rattle.clusters.specs.Clusters.{clustersOf}
+use Rattle.spec.specs.LengthAdjust.{sumAt, widthOf}
+use Rattle.spec.specs.Cluster.{rounded}
+use Rattle.cluster_table.specs.Clusters.{clustersOf}
 use Rattle.length_adjust.specs.Marks.{markedIn}
 use Rattle.length_adjust.specs.Answer.{adjustedOf}
 use Rattle.length_adjust.proofs.Steps.{widths-taken, glyphs-none, glyphs-refused, glyphs-skipped, glyphs-scaled}

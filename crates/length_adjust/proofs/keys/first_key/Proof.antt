@@ -2,7 +2,7 @@
 use Prim.Native.Nat.{_≤_, _-_, _/_, _+_}
 use native.Mathlib.Omega.{arith}
 use lib.ListN.{length}
-use Rattle.sorting.proofs.Ascending.{ascends-of-ascending}
+use Rattle.sort.proofs.Ascending.{ascends-of-ascending}
 use Rattle.length_adjust.specs.Marks.{below}
 use Rattle.length_adjust.proofs.Passed.{below-past, below-here, below-most}
 use borrow.Author.Needs.{needs}

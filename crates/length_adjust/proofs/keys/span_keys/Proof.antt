@@ -5,8 +5,8 @@ use native.Mathlib.Omega.{arith}
 use lib.ListN.{length, take, drop}
 use lib.Seq.{length-take-le}
 use Rattle.wire.proofs.Places.{take-rest}
-use Rattle.sorting.specs.Sorted.{ascending}
-use Rattle.sorting.proofs.Ascending.{ascends-of-ascending, ascending-of-ascends, drop-ascends}
+use Rattle.sort.specs.Sorted.{ascending}
+use Rattle.sort.proofs.Ascending.{ascends-of-ascending, ascending-of-ascends, drop-ascends}
 use Rattle.length_adjust.specs.Marks.{below}
 use Rattle.length_adjust.proofs.Passed.{below-most}
 use borrow.Author.Needs.{needs}

@@ -2,7 +2,7 @@
 use Prim.Native.Nat.{ℕ, _+_, _-_}
 use mathlib.Core.Path.{_≡_, refl, ap, _∙_}
 use lib.ListN.{length, drop}
-use Rattle.labels.proofs.Loops.{fold-turn, fold-done}
+use Rattle.spec.proofs.Loops.{fold-turn, fold-done}
 use Rattle.length_adjust.proofs.Places.{lower-key, higher-key, lowest, past}
 use borrow.Author.Needs.{needs}
 use Rattle.length_adjust.proofs.range.places_of.Statement.{statement}

@@ -2,10 +2,10 @@
 use mathlib.Core.Path.{_≡_, sym, ap, _∙_}
 use mathlib.Core.List.{[]}
 use lib.ListN.{length}
-use Rattle.labels.specs.LengthAdjust.{placesFrom, clusterIndexes}
-use Rattle.labels.specs.Cluster.{rounded}
-use Rattle.clusters.specs.Clusters.{clustersOf}
-use Rattle.clusters.proofs.Rows.{clusters-indexes}
+use Rattle.spec.specs.LengthAdjust.{placesFrom, clusterIndexes}
+use Rattle.spec.specs.Cluster.{rounded}
+use Rattle.cluster_table.specs.Clusters.{clustersOf}
+use Rattle.cluster_table.proofs.Rows.{clusters-indexes}
 use Rattle.length_adjust.specs.Marks.{markedIn}
 use Rattle.length_adjust.proofs.Walks.{marked-few}
 use Rattle.length_adjust.proofs.Steps.{spaced-at}

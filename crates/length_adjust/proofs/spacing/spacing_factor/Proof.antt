@@ -7,7 +7,7 @@ use lib.Dec.{T}
 use lib.IntN.{pos}
 use lib.Ieee.{binary32, inFloat}
 use mir.Facts.{yes-leb}
-use Rattle.labels.specs.LengthAdjust.{spacingFactor}
+use Rattle.spec.specs.LengthAdjust.{spacingFactor}
 use Rattle.length_adjust.proofs.spacing.spacing_factor.Statement.{statement}
 use Rattle.length_adjust.proofs.spacing.spacing_factor.Tie as tie
 

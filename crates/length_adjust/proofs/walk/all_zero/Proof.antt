@@ -2,16 +2,16 @@
 use mathlib.Core.Logic.{⊎-elim}
 use mathlib.Core.List.{List}
 use lib.Ieee.{Float}
-use Rattle.labels.specs.Single.{+0, isZero}
-use Rattle.labels.specs.LengthAdjust.{widthOf}
+use Rattle.spec.specs.Single.{+0, isZero}
+use Rattle.spec.specs.LengthAdjust.{widthOf}
 use Prim.Native.Nat.{ℕ, _+_, _-_}
 use mathlib.Core.Path.{_≡_, refl, sym, ap, _∙_}
 use mathlib.Core.Bool.{Bool, true, false}
 use lib.ListN.{length, take, drop}
 use borrow.Author.Tests.{not-true, not-false}
-use Rattle.labels.specs.Lists.{all, atOr}
-use Rattle.clusters.specs.Clusters.{clustersOf}
-use Rattle.clusters.proofs.Turns.{cluster-get}
+use Rattle.spec.specs.Lists.{all, getOr}
+use Rattle.cluster_table.specs.Clusters.{clustersOf}
+use Rattle.cluster_table.proofs.LoopSteps.{cluster-get}
 use Rattle.length_adjust.specs.Marks.{markedFrom, markedIn}
 use Rattle.length_adjust.proofs.Walks.{walked, walk-on, walk-past, walk-done, and-at, all-walk}
 use borrow.Author.Needs.{needs}
@@ -20,7 +20,7 @@ use Rattle.length_adjust.proofs.walk.all_zero.Statement.{statement}
 use Rattle.length_adjust.proofs.walk.all_zero.Tie as tie
 
 abbrev zero-width : List (List Float) → List (List ℕ) → ℕ → ℕ → Bool
-zero-width floats words n k = isZero (atOr +0 widthOf (clustersOf floats words n) k)
+zero-width floats words n k = isZero (getOr +0 widthOf (clustersOf floats words n) k)
 
 abbrev Inv-loop : tie.InvT-loop
 Inv-loop floats words marks to i₀ i =

@@ -4,10 +4,10 @@ use Prim.Native.Nat.{_-_}
 use mathlib.Core.Path.{_≡_, sym, ap, _∙_}
 use mathlib.Core.List.{foldl}
 use lib.ListN.{length}
-use Rattle.labels.specs.Lists.{modify}
-use Rattle.labels.specs.ClusterParts.{withScale}
-use Rattle.clusters.specs.Clusters.{clustersOf}
-use Rattle.clusters.proofs.Turns.{cluster-modify}
+use Rattle.spec.specs.Lists.{modify}
+use Rattle.spec.specs.ClusterParts.{withScale}
+use Rattle.cluster_table.specs.Clusters.{clustersOf}
+use Rattle.cluster_table.proofs.LoopSteps.{cluster-modify}
 use Rattle.length_adjust.specs.Marks.{markedIn}
 use Rattle.length_adjust.proofs.Walks.{walked, walk-on, walk-past, walk-done}
 use borrow.Author.Needs.{needs}

@@ -4,13 +4,13 @@ use Prim.Native.Nat.{_-_}
 use mathlib.Core.Path.{_≡_, sym, ap, _∙_}
 use mathlib.Core.List.{[], foldl}
 use lib.ListN.{length, getD}
-use Rattle.labels.specs.Single.{_+ᶠ_}
-use Rattle.labels.specs.Lists.{modify}
-use Rattle.labels.specs.LengthAdjust.{takenOf, stretchedBy}
-use Rattle.labels.specs.Cluster.{rounded}
-use Rattle.clusters.specs.Clusters.{clustersOf}
-use Rattle.clusters.proofs.Rows.{line-back}
-use Rattle.clusters.proofs.Turns.{floats-modify}
+use Rattle.spec.specs.Single.{_+ᶠ_}
+use Rattle.spec.specs.Lists.{modify}
+use Rattle.spec.specs.LengthAdjust.{takenOf, stretchedBy}
+use Rattle.spec.specs.Cluster.{rounded}
+use Rattle.cluster_table.specs.Clusters.{clustersOf}
+use Rattle.cluster_table.proofs.Rows.{line-back}
+use Rattle.cluster_table.proofs.LoopSteps.{floats-modify}
 use Rattle.length_adjust.specs.Marks.{markedIn}
 use Rattle.length_adjust.proofs.Walks.{walked, walk-on, walk-past, walk-done}
 use borrow.Author.Needs.{needs}

@@ -2,16 +2,16 @@
 use mathlib.Core.Logic.{⊎-elim}
 use mathlib.Core.List.{List}
 use lib.Ieee.{Float}
-use Rattle.labels.specs.Lists.{atOr}
-use Rattle.labels.specs.Single.{+0, _+ᶠ_}
+use Rattle.spec.specs.Lists.{getOr}
+use Rattle.spec.specs.Single.{+0, _+ᶠ_}
 use Prim.Native.Nat.{ℕ, _≤_, _-_}
 use mathlib.Core.Path.{_≡_, refl, sym, ap, _∙_}
 use lib.ListN.{length}
-use Rattle.labels.specs.declared.Span.{Span}
-use Rattle.labels.specs.LengthAdjust.{sumAt, takenOf}
-use Rattle.labels.specs.Cluster.{rounded}
-use Rattle.clusters.specs.Clusters.{clustersOf}
-use Rattle.clusters.proofs.Turns.{cluster-get}
+use Rattle.spec.specs.declared.Span.{Span}
+use Rattle.spec.specs.LengthAdjust.{sumAt, takenOf}
+use Rattle.spec.specs.Cluster.{rounded}
+use Rattle.cluster_table.specs.Clusters.{clustersOf}
+use Rattle.cluster_table.proofs.LoopSteps.{cluster-get}
 use Rattle.length_adjust.specs.Marks.{markedIn}
 use Rattle.length_adjust.proofs.Walks.{walked, walk-on, walk-past, walk-done, one-more, count-walk}
 use borrow.Author.Needs.{needs}
@@ -20,7 +20,7 @@ use Rattle.length_adjust.proofs.walk.taken.Statement.{statement}
 use Rattle.length_adjust.proofs.walk.taken.Tie as tie
 
 abbrev add-taken : Span → List (List Float) → List (List ℕ) → ℕ → Float → ℕ → Float
-add-taken span floats words n w k = w +ᶠ atOr +0 (takenOf rounded span) (clustersOf floats words n) k
+add-taken span floats words n w k = w +ᶠ getOr +0 (takenOf rounded span) (clustersOf floats words n) k
 
 abbrev Inv-loop : tie.InvT-loop
 Inv-loop span floats words marks sum₀ count₀ to i₀ sum count i =

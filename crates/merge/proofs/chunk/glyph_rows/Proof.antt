@@ -5,11 +5,11 @@ use borrow.Author.Needs.{needs}
 use Rattle.merge.proofs.chunk.glyph_rows.Statement.{statement}
 use Rattle.merge.proofs.chunk.glyph_rows.Tie as tie
 
-from-requires : tie.Need-from-requires
-from-requires c κs = search needs
+tail-requires : tie.Need-tail-requires
+tail-requires c κs = search needs
 
-cut-requires : tie.Need-cut-requires
-cut-requires c κs = search needs
+clamp-requires : tie.Need-clamp-requires
+clamp-requires c κs = search needs
 
 glyphs-at-requires : tie.Need-glyphs-at-requires
 glyphs-at-requires c κs = search needs
@@ -30,8 +30,8 @@ returns : tie.Need-returns
 returns c =
     let n = c .glyph-count in
     let k = c .before .glyphs-at in
-    let p = c .before .before .cut in
-    let row = c .before .before .before .from in
+    let p = c .before .before .clamp in
+    let row = c .before .before .before .tail in
     let a = c .before .before .before .before .before .args in
     (omega arith, own-glyphs (a .s .now) (row .result .now) (a .at) (p .result) (k .result) (n .result) (row .ensures) (p .ensures) (k .ensures .0) (n .ensures .0))
 
@@ -39,8 +39,8 @@ pub glyph-rows-spec : {M : Type 1} → statement M
 glyph-rows-spec =
     tie.close
     (tie.spec
-    from-requires
-    cut-requires
+    tail-requires
+    clamp-requires
     glyphs-at-requires
     add-first
     add-first-2

@@ -1,7 +1,7 @@
 -- `merge::chunk::list_span` meets its contract. Assumes nothing.
 use mathlib.Core.Path.{_∙_}
 use lib.ListN.{drop}
-use Rattle.labels.specs.Decode.{partsOf}
+use Rattle.spec.specs.Decode.{partsOf}
 use Rattle.merge.proofs.Spans.{own-few, own-count}
 use borrow.Author.Needs.{needs}
 use Rattle.merge.proofs.chunk.list_span.Statement.{statement}

@@ -3,12 +3,12 @@ use Prim.Native.Nat.{ℕ}
 use mathlib.Core.Path.{refl, _∙_}
 use mathlib.Core.List.{List}
 use lib.ListN.{drop}
-use Rattle.labels.specs.Outcome.{given}
-use Rattle.labels.specs.Decode.{partsOf}
-use Rattle.labels.specs.Merge.{mergeSpan}
+use Rattle.spec.specs.Outcome.{given}
+use Rattle.spec.specs.Decode.{partsOf}
+use Rattle.spec.specs.Merge.{mergeSpan}
 use Rattle.merge.specs.declared.Merge.{Merge}
-use Rattle.merge.specs.Merged.{glyphsIn, mergedOf, mergedInto, spanPlaces}
-use Rattle.merge.specs.Steps.{stamped, OwnFew, Ended, SpanEnded}
+use Rattle.merge.specs.Merged.{glyphsIn, mergedOf, mergedInto, replacedPlaces}
+use Rattle.merge.specs.Steps.{stamped, OwnFew, SpanMerged, SpanEnded}
 use Rattle.merge.proofs.Spans.{own-few, own-span, span-first, span-more}
 use native.Mathlib.Omega.{arith}
 use borrow.Author.Needs.{needs}
@@ -29,10 +29,10 @@ returns c =
     let start = c .before .before .before .before .before in
     let begun = start .pre .2 in
     let a = start .args in
-    span-first (a .s .now) (partsOf (drop (a .at) (a .s .now))) (a .rows .now) (a .count) (omega arith) (Ended _ (a .s .now) _ (a .marks .now) (a .marks .now) (a .stamp))
+    span-first (a .s .now) (partsOf (drop (a .at) (a .s .now))) (a .rows .now) (a .count) (omega arith) (SpanMerged _ (a .s .now) _ (a .stamps .now) (a .stamps .now) (a .stamp))
     record {
       row-room = c .list-span .ensures .0 ∙ begun .row-room;
-      mark-room = begun .mark-room;
+      stamp-room = begun .stamp-room;
       marked = refl;
       held = rw (c .list-span .ensures .1) (start .pre .1);
       is = rw (c .list-span .ensures .2);
@@ -56,13 +56,13 @@ own-rows c =
     record { few = own-few (a .s .now) (partsOf (drop (a .at) (a .s .now))) (own .result .first) (own .result .count) (own .ensures .1) (start .pre .1); inside = own .ensures .0 }
 
 -- the span's merge is that of its glyphs into the list, which is not empty
-merged-span : (c : tie.After-span-at) (r : Merge) (rows marks : List ℕ) → (let a = c .before .before .before .before .args in
+merged-span : (c : tie.After-span-at) (r : Merge) (rows stamps : List ℕ) → (let a = c .before .before .before .before .args in
     let gs = glyphsIn (a .s .now) (a .rows .now) (a .count) in
     let own = c .before .before .glyph-rows .result in
     let parts = partsOf (drop (a .at) (a .s .now)) in
-    SpanEnded r (a .s .now) rows (a .marks .now) marks (a .stamp) (mergedInto gs (c .span-at .result) (a .s .now) (own .first) (own .count))
-    → Ended r (a .s .now) rows (a .marks .now) marks (a .stamp) (spanPlaces gs parts) (mergeSpan (given gs) parts))
-merged-span c r rows marks ended =
+    SpanEnded r (a .s .now) rows (a .stamps .now) stamps (a .stamp) (mergedInto gs (c .span-at .result) (a .s .now) (own .first) (own .count))
+    → SpanMerged r (a .s .now) rows (a .stamps .now) stamps (a .stamp) (replacedPlaces gs parts) (mergeSpan (given gs) parts))
+merged-span c r rows stamps ended =
     let some = c .before .if1 .left in
     let own = c .before .before .glyph-rows in
     let start = c .before .before .before .before in
@@ -70,7 +70,7 @@ merged-span c r rows marks ended =
     let a = start .args in
     let bs = drop (a .at) (a .s .now) in
     span-more (a .s .now) (partsOf bs) (own .result .first) (own .result .count) (own .ensures .1) (a .rows .now) (a .count) (omega (arith, some)) (omega (arith, begun .row-room, begun .few))
-    (Ended r (a .s .now) rows (a .marks .now) marks (a .stamp)) (rw (← own-span bs, ← c .span-at .ensures) ended)
+    (SpanMerged r (a .s .now) rows (a .stamps .now) stamps (a .stamp)) (rw (← own-span bs, ← c .span-at .ensures) ended)
 
 merge-glyphs-requires : tie.Need-merge-glyphs-requires
 merge-glyphs-requires c κs =

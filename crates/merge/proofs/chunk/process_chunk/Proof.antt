@@ -3,13 +3,13 @@ use Prim.Native.Nat.{ℕ, _+_, _-_, _≤_}
 use mathlib.Core.Path.{_≡_}
 use mathlib.Core.List.{foldl}
 use lib.ListN.{length, drop, length-replicate}
-use Rattle.labels.specs.Outcome.{given}
-use Rattle.labels.specs.Merge.{mergeSpan, mergeGlyphs}
-use Rattle.labels.specs.Lists.{All}
+use Rattle.spec.specs.Outcome.{given}
+use Rattle.spec.specs.Merge.{mergeSpan, mergeGlyphs}
+use Rattle.spec.specs.Lists.{All}
 use Rattle.job_rows.specs.Rows.{partsIn}
 use Rattle.merge.specs.Merged.{glyphsIn, mergedOf, FewGlyphs}
-use Rattle.merge.specs.Steps.{Below}
-use Rattle.merge.proofs.Marks.{below-clear, ended-below}
+use Rattle.merge.specs.Steps.{StampsBelow}
+use Rattle.merge.proofs.Stamps.{below-clear, ended-below}
 use Rattle.merge.proofs.Spans.{spans-start, spans-on, spans-stop, spans-done, few-here, few-on}
 use borrow.Author.Needs.{needs}
 use native.Mathlib.Omega.{arith}
@@ -17,17 +17,17 @@ use Rattle.merge.proofs.chunk.process_chunk.Statement.{statement}
 use Rattle.merge.proofs.chunk.process_chunk.Tie as tie
 
 abbrev Inv-loop : tie.InvT-loop
-Inv-loop s spans rows₀ marks₀ count₀ i₀ rows marks count i =
+Inv-loop s spans rows₀ stamps₀ count₀ i₀ rows stamps count i =
     (length rows ≡ 1024)
-    × (length marks ≡ 1024)
-    × Below (i + 1) marks
+    × (length stamps ≡ 1024)
+    × StampsBelow (i + 1) stamps
     × (count ≤ 1024)
     × (i ≤ length spans)
     × All FewGlyphs (partsIn s (drop i spans))
     × (foldl mergeSpan (given (glyphsIn s rows count)) (partsIn s (drop i spans)) ≡ mergeGlyphs (partsIn s spans))
 
 abbrev μ-loop : tie.MeasureT-loop
-μ-loop s spans rows₀ marks₀ count₀ i₀ rows marks count i = length spans - i
+μ-loop s spans rows₀ stamps₀ count₀ i₀ rows stamps count i = length spans - i
 
 loop-holds : tie.Need-loop-holds Inv-loop μ-loop
 loop-holds c =
@@ -53,7 +53,7 @@ merge-span-requires c κs =
     let start = loop .before .before .before in
     let a = start .args in
     let l = loop .loop in
-    (start .pre .size, few-here (a .s .now) (a .spans .now) (l .i) (omega arith) (l .inv .5), record { row-room = l .inv .0; mark-room = l .inv .1; earlier = l .inv .2; few = l .inv .3 })
+    (start .pre .size, few-here (a .s .now) (a .spans .now) (l .i) (omega arith) (l .inv .5), record { row-room = l .inv .0; stamp-room = l .inv .1; earlier = l .inv .2; few = l .inv .3 })
 
 enum-known-n : tie.Need-enum-known-n Inv-loop μ-loop
 enum-known-n c = search needs
@@ -90,7 +90,7 @@ loop-again c =
     let l = loop .loop in
     let s = a .s .now in (
       did .ensures .row-room,
-      did .ensures .mark-room,
+      did .ensures .stamp-room,
       ended-below (did .ensures) (c .before .n .given .1) (l .inv .2),
       rw (c .before .n .given .1) at (did .ensures .held),
       omega arith,

@@ -2,7 +2,7 @@
 use mathlib.Core.Path.{_∙_}
 use borrow.Author.Needs.{needs}
 use lib.Seq.{drop-drop}
-use Rattle.labels.specs.Decode.{glyphOf}
+use Rattle.spec.specs.Decode.{glyphOf}
 use Rattle.merge.proofs.glyph.index_at.Statement.{statement}
 use Rattle.merge.proofs.glyph.index_at.Tie as tie
 

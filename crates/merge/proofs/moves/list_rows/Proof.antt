@@ -5,8 +5,8 @@ use Prim.Native.Nat.{ℕ, _+_, _*_, _≤_, _-_}
 use mathlib.Core.Path.{_≡_, refl, sym, _∙_}
 use mathlib.Core.List.{List}
 use lib.ListN.{length, drop, length-set}
-use Rattle.labels.specs.Bytes.{rows as records}
-use Rattle.labels.specs.Decode.{glyphOf, glyphBytes}
+use Rattle.spec.specs.Bytes.{rows as records}
+use Rattle.spec.specs.Decode.{glyphOf, glyphBytes}
 use Rattle.merge.proofs.Moved.{listed, listed-start, listed-step, listed-end}
 use Rattle.merge.proofs.moves.list_rows.Statement.{statement}
 use Rattle.merge.proofs.moves.list_rows.Tie as tie

@@ -3,7 +3,7 @@ use borrow.Author.Needs.{needs}
 use native.Mathlib.Omega.{arith}
 use Prim.Native.Nat.{_-_}
 use mathlib.Core.Path.{_≡_, sym, _∙_}
-use Rattle.labels.specs.Merge.{placeOf}
+use Rattle.spec.specs.Merge.{placeOf}
 use Rattle.merge.specs.Merged.{glyphsIn}
 use Rattle.merge.proofs.Found.{placeFrom, place-from, place-here, place-on, place-end}
 use Rattle.merge.proofs.search.place_of.Statement.{statement}

@@ -4,8 +4,8 @@ use mathlib.Core.Path.{_≡_, refl, sym, ap, _∙_}
 use mathlib.Core.List.{List, _∷_}
 use native.Mathlib.Omega.{arith}
 use lib.ListN.{length, getD, drop}
-use Rattle.labels.specs.Decode.{glyphCount, partsOf}
-use Rattle.laws.proofs.Search.{find-here, find-on, find-end}
+use Rattle.spec.specs.Decode.{glyphCount, partsOf}
+use Rattle.spec_laws.proofs.Search.{find-here, find-on, find-end}
 use Rattle.job_rows.specs.Rows.{partsIn}
 use Rattle.merge.specs.Source.{hasGlyphs, glyphSpan}
 use Rattle.merge.proofs.Alone.{parts-next, parts-length, counted-some, counted-none}
@@ -22,14 +22,14 @@ abbrev μ-loop : tie.MeasureT-loop
 loop-holds : tie.Need-loop-holds Inv-loop μ-loop
 loop-holds c = refl
 
-mul-from : tie.Need-mul-from Inv-loop μ-loop
-mul-from c = search needs
+mul-tail : tie.Need-mul-tail Inv-loop μ-loop
+mul-tail c = search needs
 
-shared-slice-read-from : tie.Need-shared-slice-read-from Inv-loop μ-loop
-shared-slice-read-from c = search needs
+shared-slice-read-tail : tie.Need-shared-slice-read-tail Inv-loop μ-loop
+shared-slice-read-tail c = search needs
 
-from-requires : tie.Need-from-requires Inv-loop μ-loop
-from-requires c κs = search needs
+tail-requires : tie.Need-tail-requires Inv-loop μ-loop
+tail-requires c κs = search needs
 
 glyph-count-requires : tie.Need-glyph-count-requires Inv-loop μ-loop
 glyph-count-requires c κs = search needs
@@ -49,7 +49,7 @@ module _ (c : tie.After-glyph-count Inv-loop μ-loop) where
   following = parts-next s spans (turn .loop .i) (omega arith)
 
   counted : c .glyph-count .result ≡ glyphCount (drop (getD spans (turn .loop .i) 0) s)
-  counted = c .glyph-count .ensures .0 ∙ ap glyphCount (c .before .from .ensures)
+  counted = c .glyph-count .ensures .0 ∙ ap glyphCount (c .before .tail .ensures)
 
 returns : tie.Need-returns Inv-loop μ-loop
 returns c = sym (find-here hasGlyphs _ (turn (c .before) .loop .i) (following (c .before)) (counted-some _ (omega (arith, counted (c .before), c .if1 .taken)))) ∙ turn (c .before) .loop .inv
@@ -76,9 +76,9 @@ glyph-span-spec =
     Inv-loop
     μ-loop
     loop-holds
-    mul-from
-    shared-slice-read-from
-    from-requires
+    mul-tail
+    shared-slice-read-tail
+    tail-requires
     glyph-count-requires
     returns
     add-i

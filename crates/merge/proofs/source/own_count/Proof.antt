@@ -2,20 +2,20 @@
 use mathlib.Core.Path.{_≡_, sym, ap, _∙_}
 use native.Mathlib.Omega.{arith}
 use lib.ListN.{length}
-use Rattle.labels.specs.Decode.{glyphCount}
+use Rattle.spec.specs.Decode.{glyphCount}
 use Rattle.merge.proofs.Alone.{glyphs-counted, own-here, own-past}
 use borrow.Author.Needs.{needs}
 use Rattle.merge.proofs.source.own_count.Statement.{statement}
 use Rattle.merge.proofs.source.own_count.Tie as tie
 
-mul-from : tie.Need-mul-from
-mul-from c = search needs
+mul-tail : tie.Need-mul-tail
+mul-tail c = search needs
 
-shared-slice-read-from : tie.Need-shared-slice-read-from
-shared-slice-read-from c = search needs
+shared-slice-read-tail : tie.Need-shared-slice-read-tail
+shared-slice-read-tail c = search needs
 
-from-requires : tie.Need-from-requires
-from-requires c κs = search needs
+tail-requires : tie.Need-tail-requires
+tail-requires c κs = search needs
 
 glyph-count-requires : tie.Need-glyph-count-requires
 glyph-count-requires c κs = search needs
@@ -24,7 +24,7 @@ returns : tie.Need-returns
 returns c =
     let a = c .before .before .before .before .before .before .args in
     let own = own-here (a .s .now) (a .spans .now) (a .k) (omega arith) in
-    c .glyph-count .ensures .0 ∙ ap glyphCount (c .before .from .ensures) ∙ sym (glyphs-counted _) ∙ sym (ap length own)
+    c .glyph-count .ensures .0 ∙ ap glyphCount (c .before .tail .ensures) ∙ sym (glyphs-counted _) ∙ sym (ap length own)
 
 returns-2 : tie.Need-returns-2
 returns-2 c =
@@ -32,4 +32,4 @@ returns-2 c =
     sym (ap length (own-past (a .s .now) (a .spans .now) (a .k) (omega arith)))
 
 pub own-count-spec : {M : Type 1} → statement M
-own-count-spec = tie.close (tie.spec mul-from shared-slice-read-from from-requires glyph-count-requires returns returns-2)
+own-count-spec = tie.close (tie.spec mul-tail shared-slice-read-tail tail-requires glyph-count-requires returns returns-2)

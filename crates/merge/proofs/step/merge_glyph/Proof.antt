@@ -31,9 +31,9 @@ returns c =
     let a = start .args in
     let s = a .s .now in record {
       row-room = c .insert-next .ensures .0;
-      mark-room = start .pre .mark-room;
+      stamp-room = start .pre .stamp-room;
       within = c .insert-next .ensures .1;
-      stands = λ marks₀ positions less known.
+      stands = λ stamps₀ positions less known.
           rw (glyph-owed s (a .rows .now) (a .at) (a .row) positions (held start) (a .span) (omega arith))
           (stood (c .insert-next .result) positions known (c .insert-next .ensures .2 s positions));
     }
@@ -49,9 +49,9 @@ returns-2 c =
     let a = start .args in
     let s = a .s .now in record {
       row-room = start .pre .row-room;
-      mark-room = start .pre .mark-room;
+      stamp-room = start .pre .stamp-room;
       within = c .skip .ensures .0;
-      stands = λ marks₀ positions less known.
+      stands = λ stamps₀ positions less known.
           rw (
             glyph-free s (a .rows .now) (a .at) (a .row) positions (held start) (a .span) (omega arith),
             outside s (a .rows .now) (a .at) (a .row) positions (held start) (a .span) (index .result) (index .ensures) (sym (covered .ensures) ∙ not-true (covered .result) (c .before .if2 .taken)),
@@ -72,11 +72,11 @@ returns-3 c =
     let is-covered = sym (covered .ensures) ∙ not-false (covered .result) (c .before .before .before .if2 .left) in
     let did = c .replace-first .ensures (a .span) (rw (← index .ensures) is-covered) in record {
       row-room = did .row-room;
-      mark-room = did .mark-room;
+      stamp-room = did .stamp-room;
       within = did .within;
-      stands = λ marks₀ positions less known.
+      stands = λ stamps₀ positions less known.
           rw (glyph-free s (a .rows .now) (a .at) (a .row) positions (held start) (a .span) (omega arith))
-          (did .stands marks₀ positions less known);
+          (did .stands stamps₀ positions less known);
     }
 
 pub merge-glyph-spec : {M : Type 1} → statement M

@@ -7,11 +7,11 @@ use mathlib.Core.List.{foldl}
 use lib.Ieee.{Float}
 use lib.ListN.{length, length-set}
 use borrow.Author.Needs.{needs}
-use Rattle.labels.specs.Single.{_+ᶠ_}
-use Rattle.labels.specs.Position.{pastAdvance, placedFrom}
-use Rattle.labels.specs.Cluster.{rounded}
-use Rattle.clusters.specs.Clusters.{Cluster, clustersOf}
-use Rattle.clusters.proofs.Turns.{stored, stage-done, folded, fold-done}
+use Rattle.spec.specs.Single.{_+ᶠ_}
+use Rattle.spec.specs.Position.{pastAdvance, placedFrom}
+use Rattle.spec.specs.Cluster.{rounded}
+use Rattle.cluster_table.specs.Clusters.{Cluster, clustersOf}
+use Rattle.cluster_table.proofs.LoopSteps.{stored, stage-done, folded, fold-done}
 use Rattle.position.proofs.Shifting.{shifting, shifting-turn, shifting-past}
 use Rattle.position.proofs.line.place_from.Statement.{statement}
 use Rattle.position.proofs.line.place_from.Tie as tie

@@ -1,5 +1,5 @@
 -- `position::line::positioned_between` meets its contract. Assumes nothing.
-use Rattle.clusters.specs.Clusters.{clustersOf}
+use Rattle.cluster_table.specs.Clusters.{clustersOf}
 use Rattle.position.proofs.Ends.{returned}
 use borrow.Author.Needs.{needs}
 use Rattle.position.proofs.line.positioned_between.Statement.{statement}

@@ -1,6 +1,6 @@
 -- `position::line::process_anchor` meets its contract. Assumes nothing.
 use borrow.Author.Tests.{eq-eqb, ne-eqb}
-use Rattle.labels.specs.Position.{processAnchor}
+use Rattle.spec.specs.Position.{processAnchor}
 use Rattle.position.proofs.line.process_anchor.Statement.{statement}
 use Rattle.position.proofs.line.process_anchor.Tie as tie
 

@@ -2,7 +2,7 @@
 -- so the text order. Assumes nothing.
 use native.Mathlib.Omega.{arith}
 use borrow.Author.Needs.{needs}
-use Rattle.clusters.specs.Clusters.{clustersOf}
+use Rattle.cluster_table.specs.Clusters.{clustersOf}
 use Rattle.job_rows.specs.Rows.{jobAt}
 use Rattle.text_order.proofs.Order.{ordered-still}
 use Rattle.position.proofs.Ends.{stages}
@@ -21,8 +21,8 @@ resolve-relative-shifts-requires c κs =
     let given = c .before .before .before .before .before .pre in
     (given .0 .rows, given .0 .numbered, given .1)
 
-turn-shifts-requires : tie.Need-turn-shifts-requires
-turn-shifts-requires c κs = search needs
+rotate-shifts-requires : tie.Need-rotate-shifts-requires
+rotate-shifts-requires c κs = search needs
 
 mark-relative-shifts-requires : tie.Need-mark-relative-shifts-requires
 mark-relative-shifts-requires c κs =
@@ -49,7 +49,7 @@ returns c =
     let a = call (shifted marked) .args in
     λ offset chunk ea en.
     stages (jobAt (a .s .now) (a .job)) offset chunk (clustersOf (a .floats .now) (a .words .now) (a .n)) ea
-    (shifted marked .resolve-relative-shifts .ensures (chunk .text) offset en) (turned .turn-shifts .ensures)
+    (shifted marked .resolve-relative-shifts .ensures (chunk .text) offset en) (turned .rotate-shifts .ensures)
     (marked .mark-relative-shifts .ensures .1 (chunk .text) offset en) (placed .positioned .ensures)
 
 pub resolve-clusters-positions-horizontal-spec : {M : Type 1} → statement M
@@ -57,7 +57,7 @@ resolve-clusters-positions-horizontal-spec =
     tie.close
     (tie.spec
     resolve-relative-shifts-requires
-    turn-shifts-requires
+    rotate-shifts-requires
     mark-relative-shifts-requires
     positioned-requires
     same-length

@@ -7,14 +7,14 @@ use mathlib.Core.List.{List}
 use lib.ListN.{length, getD, length-set}
 use lib.Ieee.{Float}
 use borrow.Author.Needs.{needs}
-use Rattle.labels.specs.Single.{_+ᶠ_, +0}
-use Rattle.labels.specs.Job.{Job}
-use Rattle.labels.specs.Decode.{listOf}
-use Rattle.labels.specs.Position.{Shifting, resolveRelativeShifts}
-use Rattle.labels.specs.Cluster.{rounded}
-use Rattle.clusters.specs.Clusters.{Cluster, clustersOf}
+use Rattle.spec.specs.Single.{_+ᶠ_, +0}
+use Rattle.spec.specs.Job.{Job}
+use Rattle.spec.specs.Decode.{listOf}
+use Rattle.spec.specs.Position.{Shifting, resolveRelativeShifts}
+use Rattle.spec.specs.Cluster.{rounded}
+use Rattle.cluster_table.specs.Clusters.{Cluster, clustersOf}
 use Rattle.job_rows.specs.Rows.{jobAt}
-use Rattle.position.specs.Given.{Numbered}
+use Rattle.position.specs.Given.{CharacterNumbersOf}
 use Rattle.position.proofs.TextOrder.{order-count, entry-at, key-inside}
 use Rattle.position.proofs.Shifting.{shifted, shift-turn, shift-done, shift-all}
 use Rattle.position.proofs.shifts.resolve_relative_shifts.Statement.{statement}
@@ -23,7 +23,7 @@ use Rattle.position.proofs.shifts.resolve_relative_shifts.Tie as tie
 abbrev Inv-loop : tie.InvT-loop
 Inv-loop s order numbers floats₀ words n dx dy x₀ y₀ i₀ floats x y i =
     (length floats ≡ length floats₀) × (i ≤ n)
-    × ((job : Job) (text : List ℕ) (offset : ℕ) → job .dx ≡ listOf dx → job .dy ≡ listOf dy → Numbered text offset numbers words n
+    × ((job : Job) (text : List ℕ) (offset : ℕ) → job .dx ≡ listOf dx → job .dy ≡ listOf dy → CharacterNumbersOf text offset numbers words n
     → shifted job text offset words n x y floats i .clusters ≡ resolveRelativeShifts rounded job text offset (clustersOf floats₀ words n))
 
 abbrev μ-loop : tie.MeasureT-loop
@@ -43,11 +43,11 @@ inside c =
     let turn = c .before in
     key-inside (call (turn .before) .pre .2) (turn .before .loop .i) (turn .loop-test .taken) (c .place-at .ensures)
 
-from-requires : tie.Need-from-requires Inv-loop μ-loop
-from-requires c κs = search needs
+tail-requires : tie.Need-tail-requires Inv-loop μ-loop
+tail-requires c κs = search needs
 
-from-requires-2 : tie.Need-from-requires-2 Inv-loop μ-loop
-from-requires-2 c κs = search needs
+tail-requires-2 : tie.Need-tail-requires-2 Inv-loop μ-loop
+tail-requires-2 c κs = search needs
 
 loop-holds : tie.Need-loop-holds Inv-loop μ-loop
 loop-holds c =
@@ -126,7 +126,7 @@ returns c =
     let job = jobAt (a .s .now) (a .job) in
     λ text offset en.
     sym (ap (λ (st : Shifting Float Cluster). st .clusters) (shift-done job text offset (a .words .now) (a .n) (l .x) (l .y) (l .floats) (l .i) (omega (arith, order-count (call at .pre .2), c .loop-test .left))))
-    ∙ l .inv .2 job text offset (sym (ap listOf (at .before .before .from .ensures))) (sym (ap listOf (at .before .from2 .ensures))) en
+    ∙ l .inv .2 job text offset (sym (ap listOf (at .before .before .tail .ensures))) (sym (ap listOf (at .before .tail2 .ensures))) en
 
 pub resolve-relative-shifts-spec : {M : Type 1} → statement M
 resolve-relative-shifts-spec =
@@ -134,8 +134,8 @@ resolve-relative-shifts-spec =
     (tie.spec
     Inv-loop
     μ-loop
-    from-requires
-    from-requires-2
+    tail-requires
+    tail-requires-2
     loop-holds
     place-at-requires
     number-at-requires

@@ -8,15 +8,15 @@ use Rattle.replay.proofs.record.job.Tie as tie
 u32-at-requires : tie.Need-u32-at-requires
 u32-at-requires c κs = search needs
 
-cast-part : tie.Need-cast-part
-cast-part c = search needs
+cast-window : tie.Need-cast-window
+cast-window c = search needs
 
-part-requires : tie.Need-part-requires
-part-requires c κs = search needs
+window-requires : tie.Need-window-requires
+window-requires c κs = search needs
 
 returns : tie.Need-returns
 unfolding jobOf
-returns c = rw (c .part .ensures, c .before .u32-at .ensures) refl
+returns c = rw (c .window .ensures, c .before .u32-at .ensures) refl
 
 pub job-spec : {M : Type 1} → statement M
-job-spec = tie.close (tie.spec u32-at-requires cast-part part-requires returns)
+job-spec = tie.close (tie.spec u32-at-requires cast-window window-requires returns)

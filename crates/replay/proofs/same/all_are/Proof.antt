@@ -6,8 +6,8 @@ use lib.Dec.{eqb}
 use lib.ListN.{length, drop}
 use borrow.Author.Tests.{eq-eqb, ne-eqb}
 use native.Mathlib.Omega.{arith}
-use Rattle.labels.specs.Lists.{all}
-use Rattle.replay.proofs.Turns.{all-differs, all-on, all-done}
+use Rattle.spec.specs.Lists.{all}
+use Rattle.replay.proofs.LoopSteps.{all-differs, all-on, all-done}
 use borrow.Author.Needs.{needs}
 use Rattle.replay.proofs.same.all_are.Statement.{statement}
 use Rattle.replay.proofs.same.all_are.Tie as tie

@@ -6,7 +6,7 @@ use lib.ListN.{length, drop}
 use borrow.Author.Tests.{eq-eqb, ne-eqb}
 use native.Mathlib.Omega.{arith}
 use Rattle.replay.specs.Same.{same}
-use Rattle.replay.proofs.Turns.{same-length, same-differs, same-on, same-done}
+use Rattle.replay.proofs.LoopSteps.{same-length, same-differs, same-on, same-done}
 use borrow.Author.Needs.{needs}
 use Rattle.replay.proofs.same.same_bytes.Statement.{statement}
 use Rattle.replay.proofs.same.same_bytes.Tie as tie

@@ -1,14 +1,14 @@
 -- `spacing::character::code_point` meets its contract: by the length of the character. Assumes nothing.
 use Prim.Native.Nat.{_%_}
 use mathlib.Core.Path.{ap, _∙_}
-use Rattle.labels.specs.Utf8.{codePoint}
+use Rattle.spec.specs.Utf8.{codePoint}
 use borrow.Author.Needs.{needs}
 use Rattle.spacing.proofs.Characters.{one-byte, two-bytes, three-bytes, four-bytes}
 use Rattle.spacing.proofs.character.code_point.Statement.{statement}
 use Rattle.spacing.proofs.character.code_point.Tie as tie
 
-from-requires : tie.Need-from-requires
-from-requires c κs = search needs
+tail-requires : tie.Need-tail-requires
+tail-requires c κs = search needs
 
 byte-at-requires : tie.Need-byte-at-requires
 byte-at-requires c κs = search needs
@@ -18,7 +18,7 @@ cast-a c = search needs
 
 returns : tie.Need-returns
 returns c =
-    let bs = c .before .before .from in
+    let bs = c .before .before .tail in
     one-byte (bs .result .now) (c .before .byte-at .ensures) (c .if1 .taken) ∙ ap codePoint (bs .ensures)
 
 byte-at-requires-2 : tie.Need-byte-at-requires-2
@@ -37,7 +37,7 @@ returns-2 : tie.Need-returns-2
 returns-2 c =
     let second = c .before .before in
     let first = second .before .before in
-    let bs = first .before .from in
+    let bs = first .before .tail in
     two-bytes (bs .result .now) (first .byte-at .ensures) (second .before .if1 .left) (c .before .low .ensures .0 ∙ ap (λ n. n % 64) (second .byte-at2 .ensures)) (c .if2 .taken)
     ∙ ap codePoint (bs .ensures)
 
@@ -64,7 +64,7 @@ returns-3 c =
     let third = c .before .before in
     let second = third .before .before .before in
     let first = second .before .before in
-    let bs = first .before .from in
+    let bs = first .before .tail in
     three-bytes (bs .result .now) (first .byte-at .ensures) (second .before .if1 .left)
     (third .before .before .low .ensures .0 ∙ ap (λ n. n % 64) (second .byte-at2 .ensures)) (third .before .if2 .left)
     (c .before .low2 .ensures .0 ∙ ap (λ n. n % 64) (third .byte-at3 .ensures)) (c .if3 .taken)
@@ -100,7 +100,7 @@ returns-4 c =
     let third = fourth .before .before .before in
     let second = third .before .before .before in
     let first = second .before .before in
-    let bs = first .before .from in
+    let bs = first .before .tail in
     four-bytes (bs .result .now) (first .byte-at .ensures) (second .before .if1 .left)
     (third .before .before .low .ensures .0 ∙ ap (λ n. n % 64) (second .byte-at2 .ensures)) (third .before .if2 .left)
     (fourth .before .before .low2 .ensures .0 ∙ ap (λ n. n % 64) (third .byte-at3 .ensures)) (fourth .before .if3 .left)
@@ -111,7 +111,7 @@ pub code-point-spec : {M : Type 1} → statement M
 code-point-spec =
     tie.close
     (tie.spec
-    from-requires
+    tail-requires
     byte-at-requires
     cast-a
     returns

@@ -1,5 +1,5 @@
 -- `spacing::character::is_word_separator_at` meets its contract. Assumes nothing.
-use Rattle.labels.specs.Script.{isWordSeparatorAt}
+use Rattle.spec.specs.Script.{isWordSeparatorAt}
 use borrow.Author.Needs.{needs}
 use Rattle.spacing.proofs.character.is_word_separator_at.Statement.{statement}
 use Rattle.spacing.proofs.character.is_word_separator_at.Tie as tie

@@ -1,7 +1,7 @@
 -- `spacing::character::is_word_separator_characters` meets its contract. Assumes nothing.
 use mathlib.Core.Bool.{or-assoc, or-false}
-use Rattle.labels.specs.Lists.{any}
-use Rattle.labels.specs.Script.{wordSeparators}
+use Rattle.spec.specs.Lists.{any}
+use Rattle.spec.specs.Script.{wordSeparators}
 use Rattle.spacing.proofs.character.is_word_separator_characters.Statement.{statement}
 use Rattle.spacing.proofs.character.is_word_separator_characters.Tie as tie
 

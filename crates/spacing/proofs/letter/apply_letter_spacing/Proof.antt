@@ -7,17 +7,17 @@ use native.Mathlib.Omega.{arith}
 use lib.ListN.{length}
 use borrow.Author.Needs.{needs}
 use borrow.Author.Tests.{not-true, not-false}
-use Rattle.labels.specs.Lists.{scan}
-use Rattle.labels.specs.declared.Span.{Span}
-use Rattle.labels.specs.declared.Cluster.{Cluster}
-use Rattle.labels.specs.Job.{spanAt}
-use Rattle.labels.specs.Cluster.{rounded}
-use Rattle.labels.specs.LetterSpacing.{nextLetterSpaced, applyLetterSpacing}
+use Rattle.spec.specs.Lists.{scan}
+use Rattle.spec.specs.declared.Span.{Span}
+use Rattle.spec.specs.declared.Cluster.{Cluster}
+use Rattle.spec.specs.Job.{spanAt}
+use Rattle.spec.specs.Cluster.{rounded}
+use Rattle.spec.specs.LetterSpacing.{nextLetterSpaced, applyLetterSpacing}
 use Rattle.job_rows.specs.Rows.{spansIn}
-use Rattle.clusters.specs.Clusters.{clustersOf}
+use Rattle.cluster_table.specs.Clusters.{clustersOf}
 use Rattle.spacing.specs.declared.letter.Kept.{Kept}
-use Rattle.clusters.proofs.Rows.{clusters-length}
-use Rattle.clusters.proofs.Turns.{stored, stage-done}
+use Rattle.cluster_table.proofs.Rows.{clusters-length}
+use Rattle.cluster_table.proofs.LoopSteps.{stored, stage-done}
 use Rattle.spacing.proofs.Collapses.{letter-turn}
 use Rattle.spacing.proofs.Tests.{cond-true, cond-false}
 use Rattle.spacing.proofs.letter.apply_letter_spacing.Statement.{statement}

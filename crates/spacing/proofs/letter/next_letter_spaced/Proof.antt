@@ -2,9 +2,9 @@
 use mathlib.Core.Path.{_≡_, sym, ap, _∙_}
 use lib.Dec.{eqb}
 use lib.Ieee.{Float}
-use Rattle.labels.specs.Script.{scriptSupportsLetterSpacing}
-use Rattle.labels.specs.Cluster.{rounded}
-use Rattle.labels.specs.LetterSpacing.{letterSpaced, nextLetterSpaced}
+use Rattle.spec.specs.Script.{scriptSupportsLetterSpacing}
+use Rattle.spec.specs.Cluster.{rounded}
+use Rattle.spec.specs.LetterSpacing.{letterSpaced, nextLetterSpaced}
 use borrow.Author.Needs.{needs}
 use Rattle.spacing.proofs.Tests.{cond-true, cond-false}
 use Rattle.spacing.proofs.letter.next_letter_spaced.Statement.{statement}

@@ -7,8 +7,8 @@ use native.Mathlib.Omega.{arith}
 use lib.ListN.{length}
 use borrow.Author.Needs.{needs}
 use borrow.Author.Tests.{eq-eqb, ne-eqb}
-use Rattle.labels.specs.WritingMode.{turned, applyWritingMode}
-use Rattle.clusters.specs.Clusters.{clustersOf}
+use Rattle.spec.specs.WritingMode.{verticalMetrics, applyWritingMode}
+use Rattle.cluster_table.specs.Clusters.{clustersOf}
 use Rattle.spacing.proofs.Mapped.{mapping, map-start, map-turn, map-done}
 use Rattle.spacing.proofs.Keeps.{turned-back}
 use Rattle.spacing.proofs.mode.apply_writing_mode.Statement.{statement}
@@ -16,7 +16,7 @@ use Rattle.spacing.proofs.mode.apply_writing_mode.Tie as tie
 
 abbrev Inv-loop : tie.InvT-loop
 Inv-loop mode floats₀ words n i₀ floats i =
-    (length floats ≡ length floats₀) × (i ≤ n) × (mapping turned floats words n i ≡ map turned (clustersOf floats₀ words n))
+    (length floats ≡ length floats₀) × (i ≤ n) × (mapping verticalMetrics floats words n i ≡ map verticalMetrics (clustersOf floats₀ words n))
 
 abbrev μ-loop : tie.MeasureT-loop
 μ-loop mode floats₀ words n i₀ floats i = n - i
@@ -26,13 +26,13 @@ unfolding applyWritingMode
 returns c = rw (ne-eqb _ _ (c .if1 .taken))
 
 loop-holds : tie.Need-loop-holds Inv-loop μ-loop
-loop-holds c = let a = c .before .args in (refl, omega arith, map-start turned (a .floats .now) (a .words .now) (a .n))
+loop-holds c = let a = c .before .args in (refl, omega arith, map-start verticalMetrics (a .floats .now) (a .words .now) (a .n))
 
 cluster-at-requires : tie.Need-cluster-at-requires Inv-loop μ-loop
 cluster-at-requires c κs = search needs
 
-turned-requires : tie.Need-turned-requires Inv-loop μ-loop
-turned-requires c κs = search needs
+vertical-metrics-requires : tie.Need-vertical-metrics-requires Inv-loop μ-loop
+vertical-metrics-requires c κs = search needs
 
 put-floats-requires : tie.Need-put-floats-requires Inv-loop μ-loop
 put-floats-requires c κs = search needs
@@ -46,14 +46,14 @@ loop-less c = search needs
 loop-again : tie.Need-loop-again Inv-loop μ-loop
 loop-again c =
     let put = c .before .put-floats in
-    let made = c .before .before .turned in
+    let made = c .before .before .vertical-metrics in
     let read = c .before .before .before .cluster-at in
     let loop = c .before .before .before .before .before .before .before in
     let a = loop .before .before .args in
     let l = loop .loop in (
       omega arith,
       omega arith,
-      map-turn turned turned-back (l .floats) (a .words .now) (a .n) (l .i) (read .result) (made .result) (read .ensures) (made .ensures) (put .ensures)
+      map-turn verticalMetrics turned-back (l .floats) (a .words .now) (a .n) (l .i) (read .result) (made .result) (read .ensures) (made .ensures) (put .ensures)
           (omega arith) (omega arith) (omega arith)
           ∙ l .inv .2,
     )
@@ -67,7 +67,7 @@ returns-2 c =
     let a = c .before .before .before .args in
     let l = c .before .loop in
     rw (eq-eqb _ _ (c .before .before .if1 .left))
-    (sym (map-done turned (l .floats) (a .words .now) (a .n) (l .i) (omega arith) (omega arith) (omega arith)) ∙ l .inv .2)
+    (sym (map-done verticalMetrics (l .floats) (a .words .now) (a .n) (l .i) (omega arith) (omega arith) (omega arith)) ∙ l .inv .2)
 
 pub apply-writing-mode-spec : {M : Type 1} → statement M
 apply-writing-mode-spec =
@@ -78,7 +78,7 @@ apply-writing-mode-spec =
     returns
     loop-holds
     cluster-at-requires
-    turned-requires
+    vertical-metrics-requires
     put-floats-requires
     add-i
     loop-less

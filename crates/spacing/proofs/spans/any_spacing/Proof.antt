@@ -8,10 +8,10 @@ use native.Mathlib.Omega.{arith}
 use lib.ListN.{length, drop}
 use lib.Ieee.{ne}
 use borrow.Author.Needs.{needs}
-use Rattle.labels.specs.Lists.{any}
-use Rattle.labels.specs.Single.{isZero}
-use Rattle.labels.specs.Decode.{spanOf}
-use Rattle.labels.proofs.Loops.{any-here, any-on, any-none}
+use Rattle.spec.specs.Lists.{any}
+use Rattle.spec.specs.Single.{isZero}
+use Rattle.spec.specs.Decode.{spanOf}
+use Rattle.spec.proofs.Loops.{any-here, any-on, any-none}
 use Rattle.job_rows.specs.Rows.{spansIn}
 use Rattle.spacing.specs.Spans.{spacingOf}
 use Rattle.spacing.specs.declared.spans.Spacing.{Spacing}

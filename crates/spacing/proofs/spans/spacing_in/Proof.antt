@@ -1,7 +1,7 @@
 -- `spacing::spans::spacing_in` meets its contract. Assumes nothing.
 use mathlib.Core.Path.{_≡_, refl}
-use Rattle.labels.specs.Single.{+0}
-use Rattle.labels.specs.Job.{blankSpan}
+use Rattle.spec.specs.Single.{+0}
+use Rattle.spec.specs.Job.{blankSpan}
 use Rattle.job_rows.specs.Rows.{spansIn}
 use Rattle.job_rows.proofs.ByNumber.{map-in, map-past}
 use Rattle.spacing.specs.Spans.{spacingOf}

@@ -1,5 +1,5 @@
 -- `spacing::spans::spacing_of` meets its contract. Assumes nothing.
-use Rattle.labels.specs.Decode.{spanOf}
+use Rattle.spec.specs.Decode.{spanOf}
 use borrow.Author.Needs.{needs}
 use Rattle.spacing.proofs.spans.spacing_of.Statement.{statement}
 use Rattle.spacing.proofs.spans.spacing_of.Tie as tie

@@ -7,10 +7,10 @@ use native.Mathlib.Omega.{arith}
 use lib.ListN.{length}
 use borrow.Author.Needs.{needs}
 use borrow.Author.Tests.{not-true, not-false}
-use Rattle.labels.specs.Cluster.{rounded}
-use Rattle.labels.specs.WordSpacing.{wordSpaced, applyWordSpacing}
+use Rattle.spec.specs.Cluster.{rounded}
+use Rattle.spec.specs.WordSpacing.{wordSpaced, applyWordSpacing}
 use Rattle.job_rows.specs.Rows.{spansIn}
-use Rattle.clusters.specs.Clusters.{clustersOf}
+use Rattle.cluster_table.specs.Clusters.{clustersOf}
 use Rattle.spacing.proofs.Mapped.{mapping, map-start, map-turn, map-done}
 use Rattle.spacing.proofs.Keeps.{word-back}
 use Rattle.spacing.proofs.Tests.{cond-true, cond-false}

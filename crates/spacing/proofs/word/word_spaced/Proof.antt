@@ -1,11 +1,11 @@
 -- `spacing::word::word_spaced` meets its contract. Assumes nothing.
 use mathlib.Core.Path.{_≡_, sym, ap, _∙_}
 use lib.Ieee.{Float}
-use Rattle.labels.specs.Single.{_+ᶠ_}
-use Rattle.labels.specs.Job.{spanAt}
-use Rattle.labels.specs.Script.{isWordSeparatorAt}
-use Rattle.labels.specs.Cluster.{rounded}
-use Rattle.labels.specs.WordSpacing.{wordSpaced}
+use Rattle.spec.specs.Single.{_+ᶠ_}
+use Rattle.spec.specs.Job.{spanAt}
+use Rattle.spec.specs.Script.{isWordSeparatorAt}
+use Rattle.spec.specs.Cluster.{rounded}
+use Rattle.spec.specs.WordSpacing.{wordSpaced}
 use Rattle.job_rows.specs.Rows.{spansIn}
 use borrow.Author.Needs.{needs}
 use Rattle.spacing.proofs.Tests.{cond-true, cond-false}

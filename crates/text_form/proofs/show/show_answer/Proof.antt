@@ -19,14 +19,14 @@ cast-count c = search needs
 loop-holds : tie.Need-loop-holds Inv-loop μ-loop
 loop-holds c = search needs
 
-from-requires : tie.Need-from-requires Inv-loop μ-loop
-from-requires c κs = search needs
+tail-requires : tie.Need-tail-requires Inv-loop μ-loop
+tail-requires c κs = search needs
 
 show-chunk-requires : tie.Need-show-chunk-requires Inv-loop μ-loop
 show-chunk-requires c κs = search needs
 
-after-requires : tie.Need-after-requires Inv-loop μ-loop
-after-requires c κs = search needs
+offset-after-requires : tie.Need-offset-after-requires Inv-loop μ-loop
+offset-after-requires c κs = search needs
 
 add-i : tie.Need-add-i Inv-loop μ-loop
 add-i c = search needs
@@ -49,9 +49,9 @@ show-answer-spec =
     u8-at-requires
     cast-count
     loop-holds
-    from-requires
+    tail-requires
     show-chunk-requires
-    after-requires
+    offset-after-requires
     add-i
     loop-less
     loop-again

@@ -18,14 +18,14 @@ abbrev μ-loop : tie.MeasureT-loop
 loop-holds : tie.Need-loop-holds Inv-loop μ-loop
 loop-holds c = (search needs, behind-all _ _ _)
 
-from-requires : tie.Need-from-requires Inv-loop μ-loop
-from-requires c κs = search needs
+tail-requires : tie.Need-tail-requires Inv-loop μ-loop
+tail-requires c κs = search needs
 
 show-row-requires : tie.Need-show-row-requires Inv-loop μ-loop
 show-row-requires c κs = search needs
 
-after-requires : tie.Need-after-requires Inv-loop μ-loop
-after-requires c κs = search needs
+offset-after-requires : tie.Need-offset-after-requires Inv-loop μ-loop
+offset-after-requires c κs = search needs
 
 add-i : tie.Need-add-i Inv-loop μ-loop
 add-i c = search needs
@@ -38,10 +38,10 @@ loop-again c =
     let s = c .before .before .before .before .before .before .args .chunk .now in
     let kind = c .before .before .before .before .before .before .args .kind in
     let l = c .before .before .before .before .loop in
-    let row = c .before .before .from in
+    let row = c .before .before .tail in
     let k = c .before .show-row in (
       search needs,
-      behind-on (rowSizeOf kind) _ (l .i) s (row .result .now) (l .at) (k .result) (c .after .result) (row .ensures) (k .ensures) (c .after .ensures) (c .before .before .before .loop-test .taken)
+      behind-on (rowSizeOf kind) _ (l .i) s (row .result .now) (l .at) (k .result) (c .offset-after .result) (row .ensures) (k .ensures) (c .offset-after .ensures) (c .before .before .before .loop-test .taken)
           ∙ l .inv .1,
     )
 
@@ -58,9 +58,9 @@ show-rows-spec =
     Inv-loop
     μ-loop
     loop-holds
-    from-requires
+    tail-requires
     show-row-requires
-    after-requires
+    offset-after-requires
     add-i
     loop-less
     loop-again

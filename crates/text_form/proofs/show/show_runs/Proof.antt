@@ -22,14 +22,14 @@ cast-count c = search needs
 loop-holds : tie.Need-loop-holds Inv-loop μ-loop
 loop-holds c = search needs
 
-from-requires : tie.Need-from-requires Inv-loop μ-loop
-from-requires c κs = search needs
+tail-requires : tie.Need-tail-requires Inv-loop μ-loop
+tail-requires c κs = search needs
 
 show-run-requires : tie.Need-show-run-requires Inv-loop μ-loop
 show-run-requires c κs = search needs
 
-after-requires : tie.Need-after-requires Inv-loop μ-loop
-after-requires c κs = search needs
+offset-after-requires : tie.Need-offset-after-requires Inv-loop μ-loop
+offset-after-requires c κs = search needs
 
 add-counter : tie.Need-add-counter Inv-loop μ-loop
 add-counter c = search needs
@@ -53,9 +53,9 @@ show-runs-spec =
     u16-at-requires
     cast-count
     loop-holds
-    from-requires
+    tail-requires
     show-run-requires
-    after-requires
+    offset-after-requires
     add-counter
     loop-less
     loop-again

@@ -1,7 +1,7 @@
 -- `wire::read::f32_within` meets its contract. Assumes nothing.
 use mathlib.Core.Path.{ap, _∙_}
 use lib.Ieee.{binary32, ofBits}
-use Rattle.labels.specs.Bytes.{float}
+use Rattle.spec.specs.Bytes.{float}
 use borrow.Author.Needs.{needs}
 use Rattle.wire.proofs.read.f32_within.Statement.{statement}
 use Rattle.wire.proofs.read.f32_within.Tie as tie

@@ -1,7 +1,7 @@
 -- `wire::read::number_at` meets its contract. Assumes nothing.
 use mathlib.Core.Path.{ap, _∙_}
 use native.Mathlib.Omega.{arith}
-use Rattle.labels.specs.Bytes.{be}
+use Rattle.spec.specs.Bytes.{be}
 use Rattle.wire.proofs.Digits.{be-past, none-below}
 use Rattle.wire.proofs.Padded.{be-padded}
 use Rattle.wire.proofs.Places.{take-rest}

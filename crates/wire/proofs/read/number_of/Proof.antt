@@ -2,7 +2,7 @@
 -- Assumes nothing.
 use Prim.Native.Nat.{_^_, _≤_, _<_, _-_}
 use mathlib.Core.Path.{_≡_, refl, sym}
-use Rattle.labels.specs.Bytes.{be}
+use Rattle.spec.specs.Bytes.{be}
 use Rattle.wire.proofs.Digits.{be-step, below-step, below-width}
 use borrow.Author.Needs.{needs}
 use native.Mathlib.Omega.{arith}

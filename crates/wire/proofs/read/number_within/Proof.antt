@@ -1,6 +1,6 @@
 -- `wire::read::number_within` meets its contract. Assumes nothing.
 use mathlib.Core.Path.{_∙_, ap}
-use Rattle.labels.specs.Bytes.{be}
+use Rattle.spec.specs.Bytes.{be}
 use Rattle.wire.proofs.Places.{take-rest}
 use borrow.Author.Needs.{needs}
 use Rattle.wire.proofs.read.number_within.Statement.{statement}

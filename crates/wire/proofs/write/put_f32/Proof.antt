@@ -1,5 +1,5 @@
 -- `wire::write::put_f32` meets its contract. Assumes nothing.
-use Rattle.labels.specs.Bytes.{floatBytes}
+use Rattle.spec.specs.Bytes.{floatBytes}
 use mathlib.Core.Path.{refl}
 use borrow.Author.Needs.{needs}
 use Rattle.wire.proofs.write.put_f32.Statement.{statement}

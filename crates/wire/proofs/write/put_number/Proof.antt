@@ -3,7 +3,7 @@
 use Prim.Native.Nat.{_+_, _≤_, _<_, _-_}
 use mathlib.Core.Path.{_≡_, sym, _∙_}
 use lib.ListN.{length, length-set}
-use Rattle.labels.specs.Bytes.{bytes}
+use Rattle.spec.specs.Bytes.{bytes}
 use Rattle.wire.specs.Splice.{splice}
 use Rattle.wire.proofs.Splice.{splice-none, bytes-put}
 use borrow.Author.Needs.{needs}

@@ -1,5 +1,0 @@
-pub mod Orders
-pub mod Last
-pub mod Places
-pub mod Tests
-pub mod Answers

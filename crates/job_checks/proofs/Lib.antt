@@ -1,0 +1,5 @@
+pub mod Orders
+pub mod Last
+pub mod Places
+pub mod Tests
+pub mod Verdicts

@@ -1,7 +1,0 @@
--- Laws of the sorted order. Assumes nothing.
-pub mod Cases
-pub mod Insertion
-pub mod Ascending
-pub mod Merging
-pub mod Turns
-pub mod Halves
