@@ -1,3 +1,4 @@
+/* SPDX-License-Identifier: Apache-2.0 OR MIT */
 /*
  * A program that draws, in small: it builds the worked label's job, has it laid out, and prints where each glyph and each underline goes.
  * Then it asks how wide a column is in which this label and two others come by, and shows what is refused. `examples/run` builds and runs it.
@@ -248,7 +249,7 @@ static void print_column(float extent) {
 }
 
 static void lay_out(const struct writer *job) {
-    static uint8_t answer[LAYOUT_ANSWER_MOST];
+    static uint8_t answer[LAYOUT_ANSWER_MAX];
     struct layout_result result = layout_text(job->bytes, job->length, answer, sizeof answer);
     if (result.number != LAYOUT_DONE) {
         printf("refused with %u\n", (unsigned)result.number);

@@ -1,3 +1,4 @@
+/* SPDX-License-Identifier: Apache-2.0 OR MIT */
 /*
  * layout.h: places the shaped glyphs of a label; and, at the end, says how wide a column of labels is.
  *
@@ -28,7 +29,7 @@ struct layout_result {
  * Refused: `answer` is as it was, every byte of it.
  *
  * A buffer three times as long as the job is never refused with 10: an answer has at most 64 / 25 of its job's bytes. Nor is one of
- * LAYOUT_ANSWER_MOST bytes, whatever the job. Both are proved, as the rest is. A buffer that is too short is refused with 10 and left as it
+ * LAYOUT_ANSWER_MAX bytes, whatever the job. Both are proved, as the rest is. A buffer that is too short is refused with 10 and left as it
  * was.
  */
 struct layout_result layout_text(const uint8_t *job, size_t job_len, uint8_t *answer, size_t answer_len);
@@ -64,7 +65,7 @@ enum layout_number {
 #define LAYOUT_SHIFTS_MOST 8
 #define LAYOUT_GLYPHS_MOST 1024 /* of a span, and of a chunk once its spans are merged */
 #define LAYOUT_CLUSTER_LENGTH_MOST 64
-#define LAYOUT_ANSWER_MOST 167772 /* bytes of an answer, whatever its job: 64 / 25 of LAYOUT_JOB_MOST */
+#define LAYOUT_ANSWER_MAX 167772 /* bytes of an answer, whatever its job: 64 / 25 of LAYOUT_JOB_MOST */
 #define LAYOUT_NO_FONT 255 /* the font byte of a span without a font: such a span has no glyphs */
 
 /* ---- a span's adjust byte: how its clusters are brought to its text length. Without a text length it says nothing.
@@ -122,7 +123,13 @@ enum layout_number {
 #define LAYOUT_SIDEWAYS 4       /* top to bottom: lies on its side */
 #define LAYOUT_SCALED 8         /* stretched to a text length, by SpacingAndGlyphs */
 #define LAYOUT_ROTATED 16       /* turned by the rotate list */
-#define LAYOUT_COLLAPSED 32     /* negative letter spacing left it no room: width 0 and no glyphs */
+#define LAYOUT_COLLAPSED 32     /* cleared: width 0 and no glyphs; the next comment says when */
+
+/*
+ * A cluster is collapsed if its advance, letter spacing added, was not above 0, in a chunk where some span has letter spacing. Clusters of
+ * the scripts that take no letter spacing never are. Negative spacing is not needed for it: the last cluster of the chunk, and one whose own
+ * span has no letter spacing, get nothing added, so a mark of advance 0 loses its glyphs there with positive spacing too.
+ */
 
 /* ---- a glyph of a cluster
  *
