@@ -56,16 +56,16 @@ enum layout_number {
 /* ---- limits of a job */
 
 #define LAYOUT_VERSION 1
-#define LAYOUT_JOB_MOST 65536
-#define LAYOUT_FONTS_MOST 16
-#define LAYOUT_LIST_MOST 4096 /* of each list: dx, dy, rotate */
-#define LAYOUT_CHUNKS_MOST 16
-#define LAYOUT_TEXT_MOST 4096 /* bytes of a chunk's text */
-#define LAYOUT_SPANS_MOST 32
-#define LAYOUT_SHIFTS_MOST 8
-#define LAYOUT_GLYPHS_MOST 1024 /* of a span, and of a chunk once its spans are merged */
-#define LAYOUT_CLUSTER_LENGTH_MOST 64
-#define LAYOUT_ANSWER_MAX 167772 /* bytes of an answer, whatever its job: 64 / 25 of LAYOUT_JOB_MOST */
+#define LAYOUT_JOB_MAX 65536
+#define LAYOUT_FONTS_MAX 16
+#define LAYOUT_LIST_MAX 4096 /* of each list: dx, dy, rotate */
+#define LAYOUT_CHUNKS_MAX 16
+#define LAYOUT_TEXT_MAX 4096 /* bytes of a chunk's text */
+#define LAYOUT_SPANS_MAX 32
+#define LAYOUT_SHIFTS_MAX 8
+#define LAYOUT_GLYPHS_MAX 1024 /* of a span, and of a chunk once its spans are merged */
+#define LAYOUT_CLUSTER_LENGTH_MAX 64
+#define LAYOUT_ANSWER_MAX 167772 /* bytes of an answer, whatever its job: 64 / 25 of LAYOUT_JOB_MAX */
 #define LAYOUT_NO_FONT 255 /* the font byte of a span without a font: such a span has no glyphs */
 
 /* ---- a span's adjust byte: how its clusters are brought to its text length. Without a text length it says nothing.
@@ -204,8 +204,8 @@ enum layout_number {
  * the span, and never looks at the others in view again.
  */
 #define COLUMN_WINDOW_WORDS 68
-#define COLUMN_SPAN_MOST 64
-#define COLUMN_LABELS_MOST 65535
+#define COLUMN_SPAN_MAX 64
+#define COLUMN_LABELS_MAX 65535
 
 struct column_width {
     uint32_t number; /* LAYOUT_DONE, or why the call is refused */
