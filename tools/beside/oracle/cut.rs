@@ -6,7 +6,7 @@ use std::{env, fs};
 /// The folder with text/layout.rs, tree/text.rs and tree/geom.rs.
 const SOURCES: &str = "BESIDE_SOURCES";
 /// From the top folder of the repository.
-const DEFAULT_SOURCES: &str = "../shared/src";
+const DEFAULT_SOURCES: &str = "../usvg/src";
 
 /// Each item by how its first line begins, visibility left off.
 const LAYOUT: &[&str] = &[
