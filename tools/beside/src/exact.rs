@@ -365,7 +365,7 @@ fn sizes(
     })
 }
 
-/// The first three have the numbers of `crates/labels/proofs/Asked.antt`, which the prover computes from the definitions; the last were
+/// The first three have the numbers of `crates/spec/proofs/Asked.antt`, which the prover computes from the definitions; the last were
 /// reckoned by hand.
 #[cfg(test)]
 mod tests {
