@@ -139,9 +139,9 @@ single : compared (plainJob [] [] (chunkRow 2 (65 ∷ []) (spanRow 0 1 0 0 1 (wh
 unfolding computed built seen
 single = refl
 
--- the second letter is covered by a span of twice the size
-two-sizes : compared (plainJob [] [] (chunkRow 0 (65 ∷ 66 ∷ []) (plainSpan 0 1 (letterRow 1 0 1 ∷ letterRow 2 1 1 ∷ []) ∷ fullSpan 0 1 2 0x42000000 0 0 0 0 0 0 0 0 [] [] ∷ []) ∷ []))
-    (asked 2 30 150 20 (plus 0 ∷ plus 10 ∷ []))
+-- the second letter is covered by a span of twice the size; the line ends at its anchor
+two-sizes : compared (plainJob [] [] (chunkRow 2 (65 ∷ 66 ∷ []) (plainSpan 0 1 (letterRow 1 0 1 ∷ letterRow 2 1 1 ∷ []) ∷ fullSpan 0 1 2 0x42000000 0 0 0 0 0 0 0 0 [] [] ∷ []) ∷ []))
+    (asked 2 30 150 20 (minus 30 ∷ minus 20 ∷ []))
     ≡ agreed
 unfolding computed built seen
 two-sizes = refl
