@@ -1,4 +1,5 @@
 // An answer's rows as bytes, put into a lent buffer from a place on.
+#![tactic(auto)]
 pub mod chunk;
 pub mod cluster;
 pub mod flags;

@@ -1,6 +1,7 @@
 // Feeds the labels in each file that an argument names to a window. A file has how many words are lent, the span, and rows of labels.
 // Prints the file's name and the number that the opening gave; then each run of equal answers; and last whether the words past the window
 // are as they were.
+#![tactic(auto)]
 mod feed;
 mod run;
 

@@ -3,6 +3,7 @@
 // when the block is full, each of its places takes the largest from there on, and the next block is written over these from the first
 // place. So the width is the larger of two numbers: what stands at the running place, and the running block's largest. (This is the
 // running maximum of van Herk and of Gil and Werman, in one block.)
+#![tactic(auto)]
 mod block;
 mod extent;
 mod refusal;

@@ -1,4 +1,5 @@
 // The values that the fields of a row may have.
+#![tactic(auto)]
 use spec::{Font, Glyph, Span};
 use wire::write::bits_of;
 

@@ -39,7 +39,7 @@ module _ {A B : Type 0} {x : A → Float} {q : B → Frac} {D S F : ℕ} where
       → {s : Float} {r : Frac} {xs : List A} {qs : List B} → Track D S F s r m E → Each D S F m E x q xs qs
       → Track D S F (foldl (λ (s : Float) (a : A). f s (x a)) s xs) (foldl (λ (r : Frac) (b : B). g r (q b)) r qs) m E
   track-fold f g k t nil = t
-  track-fold f g k {s} {r} t (cons {a = a} {b = b} u ts) = track-fold f g k (k s (x a) r (q b) t u) ts
+  track-fold f g k {s} {r} t (cons {a = a} {b = b} u ts) = track-fold f g k {s = f s (x a)} {r = g r (q b)} (k s (x a) r (q b) t u) ts
 
   pub track-maximum : {s : Float} {r : Frac} {m E : ℕ} {xs : List A} {qs : List B} → Track D S F s r m E → Each D S F m E x q xs qs
       → Track D S F (float_maximum x s xs) (frac_maximum q r qs) m E

@@ -38,7 +38,7 @@ module _ {A B : Type 0} {x : A → Float} {q : B → Frac} {D S : ℕ} where
   terms-weaken m' E' h k none = none
   terms-weaken m' E' h k (more M G t ts i j) = more m' E' t ts (le_trans i h) (le_trans j k)
 
-  pub terms-lower : {xs : List A} {qs : List B} {m E n : ℕ} (F c : ℕ) → Terms D S (c * F) x q xs qs m E n → Terms D S F x q xs qs m E n
+  pub terms-lower : (F c : ℕ) {xs : List A} {qs : List B} {m E n : ℕ} → Terms D S (c * F) x q xs qs m E n → Terms D S F x q xs qs m E n
   terms-lower F c none = none
   terms-lower F c (more M G t ts i j) = more M G (track-lower F c t) (terms-lower F c ts) i j
 
@@ -48,8 +48,8 @@ module _ {A B : Type 0} {x : A → Float} {q : B → Frac} {D S : ℕ} where
       → Track D S F (float_sum x s xs) (frac_sum q r qs) (m₀ + m) (E₀ + E + 9 * (n * M))
   track-sum-from {m₀ = m₀} {E₀ = E₀} {m = m} {E = E} M t none h k l =
       track-weaken (m₀ + m) (E₀ + E + 9 * (0 * M)) (omega arith) (omega arith) t
-  track-sum-from {m₀ = m₀} {E₀ = E₀} {m = m} {E = E} M t (more {n = n} m₁ E₁ u ts i j) h k l =
-      let v = track-sum-from M (track-add M t u (omega arith) (omega arith) l) ts (omega arith) (omega arith) l in
+  track-sum-from {s = s} {r = r} {m₀ = m₀} {E₀ = E₀} {m = m} {E = E} M t (more {a = a} {b = b} {n = n} m₁ E₁ u ts i j) h k l =
+      let v = track-sum-from {s = add binary32 s (x a)} {r = r +ᵠ q b} M (track-add M t u (omega arith) (omega arith) l) ts (omega arith) (omega arith) l in
       track-weaken (m₀ + m) (E₀ + E + 9 * (suc n * M)) (omega arith) (omega arith) v
 
   -- from 0 on
@@ -65,8 +65,8 @@ module _ {A B : Type 0} {x : A → Float} {q : B → Frac} {D S : ℕ} where
       → Terms D S F x q xs qs m E n → m₀ + m ≤ M → E₀ + E + 9 * (n * M) ≤ G → G ≤ 2 ^ 24 * M → M ≤ S
       → Running D S F M G x q s r xs qs
   track-running M G t none h k g l = done (track-weaken M G (omega arith) (omega arith) t)
-  track-running M G t (more m₁ E₁ u ts i j) h k g l =
-      let v = track-running M G (track-add M t u (omega arith) (omega arith) l) ts (omega arith) (omega arith) g l in
+  track-running {s = s} {r = r} M G t (more {a = a} {b = b} m₁ E₁ u ts i j) h k g l =
+      let v = track-running {s = add binary32 s (x a)} {r = r +ᵠ q b} M G (track-add M t u (omega arith) (omega arith) l) ts (omega arith) (omega arith) g l in
       next (track-weaken M G (omega arith) (omega arith) t) v
 
   -- ---- What each of c takes of what a sum of n terms lacks of a target. The target has the mass m₀ and the error E₀, the terms m and E; as in
@@ -88,5 +88,5 @@ pub data Sizes {B : Type 0} (D : ℕ) (q : B → Frac) : List B → ℕ → Type
 pub reads-sizes : {B : Type 0} {q : B → Frac} {D : ℕ} {r : Frac} {qs : List B} {R m : ℕ} → Reads D r R 0 → Sizes D q qs m
     → Reads D (frac_sum q r qs) (R + m) 0
 reads-sizes {R = R} t nil = reads_as (R + 0) 0 (omega arith) t
-reads-sizes {R = R} t (cons {m = m} {n = n} u ts) =
-    reads_as (R + (m + n)) 0 (omega arith) (reads-sizes (reads_as (R + m) 0 (omega arith) (reads-add t u)) ts)
+reads-sizes {q = q} {r = r} {R = R} t (cons {b = b} {m = m} {n = n} u ts) =
+    reads_as (R + (m + n)) 0 (omega arith) (reads-sizes {r = r +ᵠ q b} (reads_as (R + m) 0 (omega arith) (reads-add t u)) ts)

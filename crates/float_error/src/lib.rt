@@ -1,1 +1,2 @@
 // Fractions, and what a float stands for. There is no code here.
+#![tactic(auto)]

@@ -1,4 +1,5 @@
 // Lays out the job in each file that an argument names, and prints the file's name and then the layout in document 01's text form.
+#![tactic(auto)]
 use libc::STDOUT_FILENO;
 
 fn show_file(i: usize) {

@@ -1,4 +1,5 @@
 // The call: a job in, an answer or a refusal out.
+#![tactic(auto)]
 mod chunks;
 mod staging;
 

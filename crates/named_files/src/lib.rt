@@ -1,4 +1,5 @@
 // The files that a program's arguments name.
+#![tactic(auto)]
 use libc::STDOUT_FILENO;
 
 // Opens the file that argument `i` names and prints that name. Where it cannot be opened, says so and answers a negative number.

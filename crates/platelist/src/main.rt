@@ -1,4 +1,5 @@
 // Lays out the job on standard input and prints the answer, or the refusal, in document 01's text form.
+#![tactic(auto)]
 fn main() {
     text_form::show_layout(libc::STDIN_FILENO);
 }

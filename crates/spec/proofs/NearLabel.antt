@@ -39,9 +39,15 @@ same_of : (a b : Bool) → T (is_same a b) → a ≡ b
 unfolding is_same
 same_of true true t = refl
 same_of false false t = refl
+same_of false true t = elim t [ ]
+same_of true false t = elim t [ ]
 
 four : (a b c d : Bool) → T (a && b && c && d) → T a × T b × T c × T d
 four true true true true t = (tt, tt, tt, tt)
+four false b c d t = elim t [ ]
+four true false c d t = elim t [ ]
+four true true false d t = elim t [ ]
+four true true true false t = elim t [ ]
 
 near_of : (b : Frac) (row : ClusterRow) (q : ExactCluster) → T (is_near b row q) → Near b row q
 unfolding is_near
@@ -58,6 +64,8 @@ near_of b row q t =
 all_near : (b : Frac) (rows : List ClusterRow) (qs : List ExactCluster) → T (are_near b rows qs) → AllPairs (Near b) rows qs
 unfolding are_near
 all_near b [] [] t = AllPairs.none
+all_near b [] (q ∷ qs) t = elim t [ ]
+all_near b (row ∷ rows) [] t = elim t [ ]
 all_near b (row ∷ rows) (q ∷ qs) t =
     AllPairs.more (near_of b row q (and_l (is_near b row q) (are_near b rows qs) t)) (all_near b rows qs (and_r (is_near b row q) (are_near b rows qs) t))
 
