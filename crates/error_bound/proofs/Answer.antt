@@ -15,7 +15,7 @@ use Rattle.spec_laws.proofs.All.{all_of, all-weaken, both}
 use Rattle.spec_laws.proofs.Outcomes.{reached}
 use Rattle.spec_laws.proofs.Accepted.{accepted}
 use Rattle.spec_laws.proofs.Counted.{IsByte}
-use Rattle.spec_laws.proofs.ReadBack.{read_answer}
+use Rattle.spec_laws.proofs.ReadBack.{read_answer_lem}
 use Rattle.spec_laws.proofs.RowsFit.{Ready, ReadyJob, ready-chunks, job-fits, job-ready}
 use Rattle.spec.specs.declared.Glyph.{Glyph}
 use Rattle.spec.specs.declared.Cluster.{Cluster}
@@ -177,7 +177,7 @@ pub near-written : (job : Job) → JobIn job → (laid : List LaidChunk) (after 
 unfolding NearAnswer
 near-written job i laid after e =
     let fit = job-fits job i.ready laid e in
-    subst (NearChunks job 0 job.chunks) (sym (read_answer (rows_of laid) after fit.1 fit.0)) (near-job job i laid e)
+    subst (NearChunks job 0 job.chunks) (sym (read_answer_lem (rows_of laid) after fit.1 fit.0)) (near-job job i laid e)
 
 -- ---- demand 3, of an accepted job
 

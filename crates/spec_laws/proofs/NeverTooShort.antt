@@ -1,7 +1,7 @@
 -- A lent buffer of three times the job's bytes is never refused with 10, and neither is one of 167,772 bytes. Assumes nothing.
 use Prim.Native.Nat.{ℕ, ◌*◌, ◌≤◌}
 use mathlib.Core.Path.{◌≡◌, refl}
-use mathlib.Core.Bool.{Bool, true, cond, not}
+use mathlib.Core.Bool.{Bool, true, false, cond, not}
 use mathlib.Core.List.{List, [], ◌∷◌, foldl}
 use native.Mathlib.Nat.{le_trans}
 use native.Mathlib.Omega.{arith}
@@ -115,6 +115,7 @@ module _ (bs : List ℕ) (room : ℕ) where
     where
       put : (rows : List ChunkRow) (b : Bool) → T b → Not10 (cond b (given (answer_bytes rows)) (refused 10))
       put rows true t = tt
+      put rows false t = elim t [ ]
 
       go : (o : Outcome (List ChunkRow)) → layout_rows bs ≡ o → Not10 o → Not10 (and_then o (fitting room))
       go (refused n) e k = k

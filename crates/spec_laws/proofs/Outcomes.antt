@@ -38,12 +38,12 @@ module _ {A : Type 0} where
   passes_under n [] a = true
   passes_under n (c ∷ cs) a = cond (eqb c.number n) (c.passes a) (passes_under n cs a)
 
-  under : (n : ℕ) (cs : List (Check A)) (a : A) → All (λ (c : Check A). T (c.passes a)) cs → T (passes_under n cs a)
-  under n cs a All.none = tt
-  under n cs a (All.more {x = c} {xs = ds} h hs) = cond-keeps T (eqb c.number n) h (under n ds a hs)
+  under : (n : ℕ) (a : A) (cs : List (Check A)) → All (λ (c : Check A). T (c.passes a)) cs → T (passes_under n cs a)
+  under n a cs All.none = tt
+  under n a cs (All.more {x = c} {xs = ds} h hs) = cond-keeps T (eqb c.number n) h (under n a ds hs)
 
   pub passed-under : (n : ℕ) (cs : List (Check A)) (a : A) → first_failing cs a ≡ given tt → T (passes_under n cs a)
-  passed-under n cs a e = under n cs a (all_of (λ (c : Check A). c.passes a) cs (all-passed cs a e))
+  passed-under n cs a e = under n a cs (all_of (λ (c : Check A). c.passes a) cs (all-passed cs a e))
 
   -- what holds where there is none, and under the number of each check
   pub first-keeps : (P : Outcome (Unit {0}) → Type 0) (cs : List (Check A)) (a : A) → P (given tt) → All (λ (c : Check A). P (refused c.number)) cs → P (first_failing cs a)

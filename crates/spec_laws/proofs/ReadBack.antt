@@ -211,9 +211,9 @@ module _ (c : ChunkRow) (after : List ℕ) (f : FitChunkRow c) where
 
 -- ---- an answer
 
-pub read_answer : (cs : List ChunkRow) (after : List ℕ) → length cs < 256 ^ answer_count_bytes → All FitChunkRow cs → read_answer (answer_bytes cs ++ after) ≡ cs
+pub read_answer_lem : (cs : List ChunkRow) (after : List ℕ) → length cs < 256 ^ answer_count_bytes → All FitChunkRow cs → read_answer (answer_bytes cs ++ after) ≡ cs
 unfolding read_answer answer_bytes answer_body bytes be
-read_answer cs after h f = chunks
+read_answer_lem cs after h f = chunks
   where
     chunks : rows chunk_row_size_of chunk_row_of (be answer_count_bytes (bytes answer_count_bytes (length cs) ++ [])) (flat_map chunk_row_bytes cs ++ after) ≡ cs
     chunks =

@@ -7,7 +7,8 @@ use native.Mathlib.Nat.{le_refl}
 use native.Mathlib.Omega.{arith}
 use lib.ListN.{length, length-map, length-take}
 use lib.Dec.{T, eqb}
-use lib.Ieee.{Float}
+use lib.Ieee.{Float, binary32, of_int}
+use Rattle.spec.specs.Single.{◌+ᶠ◌}
 use Rattle.spec_laws.proofs.All.{cond-keeps}
 use Rattle.spec_laws.proofs.AnswerLength.{length-flat_map, length-chunk_row}
 use Rattle.spec_laws.proofs.Sums.{total, total-map, total-counted}
@@ -48,7 +49,7 @@ pub record Sized (n m k : ℕ) (r : ChunkRow) : Type 0 where
 length-glyph_rows : (x : Float) (gs : List Glyph) → length (glyph_rows x gs) ≡ length gs
 unfolding glyph_rows
 length-glyph_rows x [] = refl
-length-glyph_rows x (g ∷ gs) = ap suc (length-glyph_rows _ gs)
+length-glyph_rows x (g ∷ gs) = ap suc (length-glyph_rows (x +ᶠ of_int binary32 g.width) gs)
 
 cluster-glyphs : (mode : ℕ) (gs : List Glyph) (c : Cluster) → length (cluster_row mode gs c).glyphs ≤ c.count
 unfolding cluster_row
