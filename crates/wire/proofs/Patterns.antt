@@ -3,7 +3,7 @@ use Prim.Native.Nat.{ℕ, ◌%◌, ◌≤◌, ◌<◌}
 use mathlib.Core.Path.{◌≡◌, refl, sym, ◌∙◌, subst}
 use mathlib.Core.Bool.{not}
 use lib.Dec.{T}
-use lib.Ieee.{Float, nan, binary32, nan_bits, is_nan, of_bits, div}
+use lib.Ieee.{Float, nan, inf, fin, binary32, nan_bits, is_nan, of_bits, div}
 use lib.Ieee.Bits.{nan_bits_above, nan_bits_is}
 use borrow.Author.Tests.{lt-ltb}
 use mir.Facts.{no_ltb}
@@ -14,6 +14,8 @@ no_nan v h = rw (nan_bits_above binary32 v) (no_ltb h)
 is-nan : (x : Float) → T (is_nan x) → x ≡ nan
 unfolding is_nan
 is-nan nan h = refl
+is-nan (inf s) h = elim h [ ]
+is-nan (fin s m k) h = elim h [ ]
 
 pub only_nan : (v : ℕ) → 2139095040 < v % 2147483648 → of_bits binary32 v ≡ nan
 only_nan v h = is-nan (of_bits binary32 v) (subst T (sym (lt-ltb 2139095040 (v % 2147483648) h) ∙ sym (nan_bits_above binary32 v) ∙ nan_bits_is binary32 v) tt)
