@@ -240,10 +240,13 @@ module _ {fonts : List Font} {spans : List Span} {K D S : ℕ} (frame : Frame fo
   pub costs-below : (s : Span) (g : ℕ) {from H U : ℕ} {bs : List Bool} {ks : List Cell} {cs : List Cluster} {qs : List ExactCluster} → Unset bs ks → All (λ q. length q.group.glyphs ≤ g) qs → Lined fonts spans K D S from H U ks cs qs
       → sum_of (cost s) (pick bs ks) ≤ spaced_cost g * sum_of (part s) (pick bs ks)
   costs-below s g nil All.none Lined.none = omega arith
+  costs-below s g nil (All.more p ps) l = elim l [ ]
+  costs-below s g (here e u) All.none l = elim l [ ]
   costs-below s g (here {bs = bs} {ks = ks} e u) (All.more p ps) (Lined.more {k = k} b l) = go (part s k) (cost s k) (sum_of (part s) (pick bs ks)) (sum_of (cost s) (pick bs ks)) (cost-below s b e g p) (costs-below s g u ps l)
     where
       go : (m d m' d' : ℕ) → d ≤ spaced_cost g * m → d' ≤ spaced_cost g * m' → d + d' ≤ spaced_cost g * (m + m')
       go m d m' d' h i = omega arith
+  costs-below s g (there u) All.none l = elim l [ ]
   costs-below s g (there u) (All.more p ps) (Lined.more b l) = costs-below s g u ps l
 
   -- what a marked cluster gets: mass f, error E

@@ -9,7 +9,6 @@ use borrow.Author.Tests.{eq-eqb, ne_eqb}
 use lib.ListN.{length, drop, length-map}
 use lib.Seq.{append_snoc}
 use lib.Dec.{T, eqb, leb}
-use lib.Ieee.{Float}
 use Rattle.float_error.specs.Fraction.{Frac}
 use Rattle.spec_laws.proofs.All.{all_of, all-weaken, both}
 use Rattle.spec_laws.proofs.Outcomes.{reached}

@@ -100,7 +100,8 @@ module _ {fonts : List Font} {K D S : ℕ} (frame : Frame fonts K D S) (size : F
   pub glyphs-load : {q : Frac} {m c : ℕ} {gs : List Glyph} → Load D q m c → All (GlyphIn fonts) gs
       → Load D (foldl (λ (t : Frac) (a : Glyph). t +ᵠ absᵠ (glyph_advance exact fonts size a)) q gs) (m + glyphs_mass fonts K size gs) (c + length gs)
   glyphs-load {m = m} {c = c} l All.none = load-as (omega arith) (omega arith) l
-  glyphs-load {m = m} {c = c} l (All.more {x = g} {xs = gs} h hs) = load-as (omega arith) (omega arith) (glyphs-load (load-add l (glyph-load g h)) hs)
+  glyphs-load {q = q} {m = m} {c = c} l (All.more {x = g} {xs = gs} h hs) =
+      load-as (omega arith) (omega arith) (glyphs-load {q = q +ᵠ absᵠ (glyph_advance exact fonts size g)} (load-add l (glyph-load g h)) hs)
 
   -- ---- step 2
   module _ {gs : List Glyph} (ins : All (GlyphIn fonts) gs) (few : length gs ≤ 1024) where

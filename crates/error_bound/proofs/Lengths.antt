@@ -87,7 +87,7 @@ module _ {fonts : List Font} {spans : List Span} {K D S from H U : ℕ} where
   scale-all : {ks : List Cell} {cs : List Cluster} {qs : List ExactCluster} (f : Float) → Lined fonts spans K D S from H U ks cs qs → (is : List ℕ)
       → Lined fonts spans K D S from H U ks (foldl (modify (with_scale f)) cs is) qs
   scale-all f l [] = l
-  scale-all f l (i ∷ is) = scale-all f (scale_at f l i) is
+  scale-all {cs = cs} f l (i ∷ is) = scale-all {cs = modify (with_scale f) cs i} f (scale_at f l i) is
 
   scaled : {ks : List Cell} {cs : List Cluster} {qs : List ExactCluster} (f : Float) → Lined fonts spans K D S from H U ks cs qs → (is : List ℕ)
       → Lined fonts spans K D S from H U ks (scaled_by f cs is) qs
@@ -239,7 +239,7 @@ module _ {fonts : List Font} {spans : List Span} {K D S g : ℕ} (frame : Frame 
       (from, subst₂ (λ (l : ℕ) (ds : List Cluster). Adjusted fonts spans K D S g from H B l is ds qs) (sym (add-zero L)) (cc) a)
   all-spans {from} {L} {cs} {qs} (s ∷ ss) (All.more i is') o P k w a ds e =
       go (adjust_span (given cs) s) refl e
-      (λ ds' a'. all-spans ss is' (and_r (leb from s.start && leb s.start s.end && leb s.end n) (ordered n s.end ss) o) (P * divisor is s) (k ∙ sym (mul_assoc P (divisor is s) (product (map (divisor is) ss)))) (omega arith) a' ds)
+      (λ ds' a'. all-spans {from = s.end} ss is' (and_r (leb from s.start && leb s.start s.end && leb s.end n) (ordered n s.end ss) o) (P * divisor is s) (k ∙ sym (mul_assoc P (divisor is s) (product (map (divisor is) ss)))) (omega arith) a' ds)
     where
       len : ℕ
       len = size_of s.length * D
@@ -338,7 +338,7 @@ fresh-masses (Lined.more {k = k} {ks = ks} b l) = go k.done refl (fresh-masses l
     go true e h = omega arith
     go false e h = omega (arith, (b.fresh e).0)
 
-fresh-errors : {fonts : List Font} {spans : List Span} {K D S from H U : ℕ} {ks : List Cell} {cs : List Cluster} {qs : List ExactCluster} (g : ℕ) → All (λ q. length q.group.glyphs ≤ g) qs → Lined fonts spans K D S from H U ks cs qs
+fresh-errors : {fonts : List Font} {spans : List Span} {K D S from H U : ℕ} (g : ℕ) {ks : List Cell} {cs : List Cluster} {qs : List ExactCluster} → All (λ q. length q.group.glyphs ≤ g) qs → Lined fonts spans K D S from H U ks cs qs
     → sum_of (λ k. k.e) ks + advances_cost g * sum_of (set (λ k. k.B)) ks ≤ sum_of (set (λ k. k.e)) ks + advances_cost g * sum_of (λ k. k.B) ks
 fresh-errors g All.none Lined.none = omega arith
 fresh-errors g (All.more {x = q} p ps) (Lined.more {k = k} {ks = ks} b l) = go k.done refl (fresh-errors g ps l)

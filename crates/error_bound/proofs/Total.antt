@@ -56,12 +56,14 @@ module _ {K D S : ℕ} (job : Job) (c : Chunk) (offset : ℕ) (frame : Frame job
       (m + (groups_mass job.fonts spans K D (groups_of qs) + (shift_mass D job.dx c.text offset (indexes_of (groups_of qs)) + shift_mass D job.dy c.text offset (indexes_of (groups_of qs)))))
       (k + (group_glyphs (groups_of qs) + 4 * length qs))
   clusters-load [] All.none l = load-as (omega arith) (omega arith) l
-  clusters-load (q ∷ qs) (All.more i is) l = load-as (omega arith) (omega arith) (clusters-load qs is (load-add l (cluster-load q.group i)))
+  clusters-load {r = r} (q ∷ qs) (All.more i is) l =
+      load-as (omega arith) (omega arith) (clusters-load {r = r +ᵠ cluster_sizes job offset c q.group} qs is (load-add l (cluster-load q.group i)))
 
   spans-load : {r : Frac} {m k : ℕ} {ss : List Span} → All SpanIn ss → Load D r m k
       → Load D (foldl (λ (t : Frac) (s : Span). t +ᵠ absᵠ (value_of s.length)) r ss) (m + lengths_mass D ss) (k + length ss)
   spans-load All.none l = load-as (omega arith) (omega arith) l
-  spans-load (All.more i is) l = load-as (omega arith) (omega arith) (spans-load is (load-add l (load-input D i.length)))
+  spans-load {r = r} (All.more {x = s} i is) l =
+      load-as (omega arith) (omega arith) (spans-load {r = r +ᵠ absᵠ (value_of s.length)} is (load-add l (load-input D i.length)))
 
   pub total-load : (qs : List ExactCluster) → All (GroupIn job.fonts spans) (groups_of qs) → All SpanIn spans
       → Load D (size_total job offset c qs)
