@@ -16,7 +16,7 @@ use spec::{Job, Point};
 use wire::write::{put_f32, put_number};
 
 // Where a chunk begins, and where it leaves the pen.
-#[derive(Drop)]
+#[derive(Clone, Copy)]
 pub struct Frame {
     pub origin: Point,
     pub pen: Point,

@@ -3,7 +3,7 @@ use spec::{Job, Point};
 
 // How far the layout has come: the pen, how many characters came before, how many bytes the answer has, and the extent of the last chunk, 0 before
 // the first.
-#[derive(Drop)]
+#[derive(Clone, Copy)]
 pub struct Progress {
     pub pen: Point,
     pub offset: usize,
@@ -12,7 +12,7 @@ pub struct Progress {
 }
 
 // The next chunk: its job, where it stands in the record, and the progress before it.
-#[derive(Drop)]
+#[derive(Clone, Copy)]
 pub struct NextChunk {
     pub job: Job,
     pub at: usize,
@@ -20,7 +20,7 @@ pub struct NextChunk {
 }
 
 // The progress behind a chunk, or the number that the job is refused with.
-#[derive(Drop)]
+#[derive(Clone, Copy)]
 pub enum ChunkResult {
     Done(Progress),
     Refused(u8),

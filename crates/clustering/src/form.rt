@@ -30,7 +30,7 @@ pub fn glyph_advance(s: &[u8], fonts: usize, at: usize, size: f32) -> f32
 }
 
 // The largest of some glyphs' advances, at least 0, and their sum.
-#[derive(Drop)]
+#[derive(Clone, Copy)]
 struct Advances {
     width: f32,
     advance: f32,

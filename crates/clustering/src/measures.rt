@@ -7,7 +7,7 @@ use font_metrics::{ascent, descent, scale};
 use job_rows::numbered::size_in;
 
 // Of the span of place `span` and the font of byte `font`; the scale is the size divided by the font's units per em.
-#[derive(Drop)]
+#[derive(Clone, Copy)]
 pub struct Measures {
     pub span: usize,
     pub font: u8,

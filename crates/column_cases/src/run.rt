@@ -7,7 +7,7 @@ use wire::write::bits_of;
 // The width is kept and printed as its pattern, in eight digits.
 const FLOAT_DIGITS: usize = 8;
 
-#[derive(Drop)]
+#[derive(Clone, Copy)]
 pub struct Run {
     pub times: u64,
     pub number: u32,

@@ -22,7 +22,7 @@ pub const WINDOW_WORDS: usize = words::WORDS;
 
 // What a call answers: the number of a refusal or 0, and the width, which is 0 where the call is refused.
 #[repr(C)]
-#[derive(Drop)]
+#[derive(Clone, Copy)]
 pub struct Width {
     pub number: u32,
     pub width: f32,

@@ -14,7 +14,7 @@ use spec::{Span, span_contains};
 use wire::write::{put_f32, put_number};
 
 // How many runs have ended, whether another has started, and then the place of its first cluster and its width so far.
-#[derive(Drop)]
+#[derive(Clone, Copy)]
 pub struct OpenRun {
     pub ended: usize,
     pub started: bool,

@@ -20,14 +20,14 @@ pub const JOB_VERSION: u8 = 1;
 pub const AFTER_VERSION: usize = VERSION_AT + 1;
 
 // The job that a record holds, or the number of the first check that the record does not pass.
-#[derive(Drop)]
+#[derive(Clone, Copy)]
 pub enum Checked {
     Accepted(Job),
     Refused(u8),
 }
 
 // What is tested of a record; and a test with its number.
-#[derive(Drop)]
+#[derive(Clone, Copy)]
 pub enum JobCheck {
     Length,
     Version,
@@ -37,7 +37,7 @@ pub enum JobCheck {
     Spans,
 }
 
-#[derive(Drop)]
+#[derive(Clone, Copy)]
 pub struct Listed(pub JobCheck, pub u8);
 
 // The checks in their order.

@@ -10,7 +10,7 @@ use wire::read::f32_at;
 use wire::slice::{offset_after, tail};
 
 // Rows of a fixed size whose values are tested.
-#[derive(Drop)]
+#[derive(Clone, Copy)]
 pub enum RowKind {
     Font,
     Float,
@@ -19,14 +19,14 @@ pub enum RowKind {
 }
 
 // What is tested of a span, and of a chunk.
-#[derive(Drop)]
+#[derive(Clone, Copy)]
 pub enum SpanCheck {
     Shape,
     Values,
     Text,
 }
 
-#[derive(Drop)]
+#[derive(Clone, Copy)]
 pub enum ChunkCheck {
     Shape,
     Values,

@@ -141,7 +141,7 @@ pub fn span_float(row: &[u8], at: usize) -> f32
 // ---- a chunk and a shift
 
 // A chunk's own fields; `text` is how long its text is, and `spans` how many spans it has.
-#[derive(Drop)]
+#[derive(Clone, Copy)]
 pub struct ChunkHead {
     pub flags: u8,
     pub x: f32,

@@ -13,7 +13,7 @@ use job_checks::check::{Checked, check};
 use staging::layout_all;
 
 // The answer's whole length, or the number that the job is refused with.
-#[derive(Drop)]
+#[derive(Clone, Copy)]
 pub enum Answered {
     Written(usize),
     Refused(u8),

@@ -9,7 +9,7 @@ ghost use Rattle.layout.specs.Called.{LayoutPromise};
 use layout::Answered;
 
 #[repr(C)]
-#[derive(Drop)]
+#[derive(Clone, Copy)]
 pub struct LayoutResult {
     pub number: u32,
     pub length: u32,

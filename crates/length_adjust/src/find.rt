@@ -10,7 +10,7 @@ use crate::range::{Range, clear, places_of};
 use spec::Span;
 
 // What a search came to: where the clusters stand that it marked, and how many bytes it looked at.
-#[derive(Drop)]
+#[derive(Clone, Copy)]
 pub struct Search {
     pub within: Range,
     pub looked: u32,

@@ -23,14 +23,14 @@ use job_rows::numbered::span_in;
 use spec::Span;
 
 // The clusters are adjusted, or the job is refused with this number.
-#[derive(Drop)]
+#[derive(Clone, Copy)]
 pub enum Adjusted {
     Done,
     Refused(u8),
 }
 
 // What came of a span, or of all, and how many bytes were looked at.
-#[derive(Drop)]
+#[derive(Clone, Copy)]
 pub struct LengthAdjusted {
     pub adjusted: Adjusted,
     pub looked: u32,

@@ -26,7 +26,7 @@ fn taken_of(span: Span, c: Cluster) -> f32
 }
 
 // The sum of what is taken, and of how many clusters.
-#[derive(Drop)]
+#[derive(Clone, Copy)]
 pub struct Total {
     pub sum: f32,
     pub count: usize,

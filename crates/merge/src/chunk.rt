@@ -93,7 +93,7 @@ fn merge_many(
 }
 
 // The glyph rows of a span: the place of the first, and how many there are.
-#[derive(Drop)]
+#[derive(Clone, Copy)]
 pub struct GlyphRows {
     pub first: u32,
     pub count: usize,

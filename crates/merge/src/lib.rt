@@ -9,14 +9,14 @@ pub mod source;
 pub mod step;
 
 // The merged list: the places of its glyph rows in the record, of which the first `count` are in use. Its owner lends `rows` to the merge.
-#[derive(Drop)]
+#[derive(Clone, Copy)]
 pub struct Merged {
     pub rows: [u32; 1024],
     pub count: usize,
 }
 
 // The answer to a merge: how many glyphs the merged list has, or the refusal's number.
-#[derive(Drop)]
+#[derive(Clone, Copy)]
 pub enum Merge {
     Merged(usize),
     Refused(u8),

@@ -13,7 +13,7 @@ use spec::{Job, Span, span_contains};
 
 // Where the merge of a span stands: how many glyphs the list has; how many of the next glyphs are still to be inserted unfiltered, with the
 // place for the first of them; the slack of the table of first places; and the span's stamp.
-#[derive(Drop)]
+#[derive(Clone, Copy)]
 pub struct Progress {
     pub count: usize,
     pub owed: usize,
@@ -23,7 +23,7 @@ pub struct Progress {
 }
 
 // The next glyph is merged, or the merge is refused with a number.
-#[derive(Drop)]
+#[derive(Clone, Copy)]
 pub enum Step {
     Going(Progress),
     Halted(u8),

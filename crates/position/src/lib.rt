@@ -7,7 +7,7 @@ pub mod relative;
 pub mod shifts;
 
 // How far the clusters reach to the left and to the right, and their advances together.
-#[derive(Drop)]
+#[derive(Clone, Copy)]
 pub struct Extent {
     pub left: f32,
     pub right: f32,
@@ -15,7 +15,7 @@ pub struct Extent {
 }
 
 // What step 7 gives beside the clusters: the extent (right less left), and the pair that the Rust returns.
-#[derive(Drop)]
+#[derive(Clone, Copy)]
 pub struct Positioned {
     pub extent: f32,
     pub end_x: f32,

@@ -37,7 +37,7 @@ pub fn letter_spaced(letter: f32, last: bool, c: Cluster) -> Cluster
 }
 
 // The letter spacing of the span of place `span`. Neighbours nearly always have one span, so that it is kept.
-#[derive(Drop)]
+#[derive(Clone, Copy)]
 struct Kept {
     span: u32,
     letter: f32,

@@ -13,7 +13,7 @@ use job_rows::rows::span_float;
 use job_rows::sizes::{SPAN_LETTER_AT, SPAN_WORD_AT};
 use spec::Cluster;
 
-#[derive(Drop)]
+#[derive(Clone, Copy)]
 pub enum Spacing {
     Letter,
     Word,

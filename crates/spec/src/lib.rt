@@ -8,7 +8,7 @@ ghost use Rattle.spec.specs.Script.{script_supports_letter_spacing};
 // ---- the job
 
 // A job as the code holds it: the writing mode, how many font rows it has, and where its lists and its chunks begin in the record.
-#[derive(Drop)]
+#[derive(Clone, Copy)]
 pub struct Job {
     pub mode: u8,
     pub fonts: usize,
@@ -20,7 +20,7 @@ pub struct Job {
 
 // The largest counts that a job may have: bytes of a record, fonts, floats of a list (dx, dy, rotate), chunks, bytes of a text,
 // spans of a chunk, shifts of a span, glyphs of a span; and the glyphs of a merged list.
-#[derive(Drop)]
+#[derive(Clone, Copy)]
 pub struct Limits {
     pub bytes: usize,
     pub fonts: usize,
@@ -74,7 +74,7 @@ impl Job {
 }
 
 // A font row, in font units (the Rust's ResolvedFont). `units` is units per em.
-#[derive(Drop)]
+#[derive(Clone, Copy)]
 pub struct Font {
     pub units: u16,
     pub ascent: i16,
@@ -89,7 +89,7 @@ pub struct Font {
 
 // A glyph row. index: byte index (byte_idx); length: cluster length (cluster_len); tag: ISO 15924 script tag;
 // orientation: 0 sideways, 1 upright.
-#[derive(Drop)]
+#[derive(Clone, Copy)]
 pub struct Glyph {
     pub id: u32,
     pub index: u16,
@@ -103,7 +103,7 @@ pub struct Glyph {
 }
 
 // A span without its shifts and glyphs. letter, word: letter and word spacing; fixed: the length flag; length: text length (the target).
-#[derive(Drop)]
+#[derive(Clone, Copy)]
 pub struct Span {
     pub start: u16,
     pub end: u16,
@@ -132,7 +132,7 @@ pub fn span_contains(span: Span, index: u32) -> bool
 }
 
 // How far a character of UTF-8 has been read: it expects so many more bytes, of which the next lies between two bounds.
-#[derive(Drop)]
+#[derive(Clone, Copy)]
 pub enum Utf8State {
     Malformed,
     Expecting(u8, u8, u8),
@@ -140,7 +140,7 @@ pub enum Utf8State {
 
 // ---- baselines, each in the order of source document 001
 
-#[derive(Drop)]
+#[derive(Clone, Copy)]
 pub enum BaselineShift {
     Baseline,
     Subscript,
@@ -148,7 +148,7 @@ pub enum BaselineShift {
     Number(f32),
 }
 
-#[derive(Drop)]
+#[derive(Clone, Copy)]
 pub enum DominantBaseline {
     Auto,
     UseScript,
@@ -164,7 +164,7 @@ pub enum DominantBaseline {
     TextBeforeEdge,
 }
 
-#[derive(Drop)]
+#[derive(Clone, Copy)]
 pub enum AlignmentBaseline {
     Auto,
     Baseline,
@@ -185,7 +185,7 @@ pub enum AlignmentBaseline {
 // A cluster (the Rust's GlyphCluster): its byte index, the script tag and orientation of its first glyph, the place of its covering span,
 // its glyphs in the merged list (the place of the first, and how many), its marks, and its floats.
 // spacing: length spacing (text_length_spacing); shift x and shift y are the steps of its transform.
-#[derive(Drop)]
+#[derive(Clone, Copy)]
 pub struct Cluster {
     pub index: u32,
     pub tag: u32,
@@ -210,14 +210,14 @@ pub struct Cluster {
 }
 
 // A decoration run (the Rust's DecorationSpan): the place of its first cluster in the chunk, and its width.
-#[derive(Drop)]
+#[derive(Clone, Copy)]
 pub struct Run {
     pub first: usize,
     pub width: f32,
 }
 
 // The pen, or a chunk's origin.
-#[derive(Drop)]
+#[derive(Clone, Copy)]
 pub struct Point {
     pub x: f32,
     pub y: f32,

@@ -52,7 +52,7 @@ fn show_span(row: &[u8]) {
     show_runs(row);
 }
 
-#[derive(Drop)]
+#[derive(Clone, Copy)]
 pub enum RowKind {
     Cluster,
     Span,
