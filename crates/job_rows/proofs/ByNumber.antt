@@ -59,20 +59,20 @@ module _ (s : List ℕ) where
   pub length-places : (at n : ℕ) → length (span_places s at n) ≡ n
   unfolding span_places
   length-places at zero = refl
-  length-places at (suc n) = ap suc (length-places _ n)
+  length-places at (suc n) = ap suc (length-places (min (at + span_size (drop at s)) (length s)) n)
 
   -- the spans there are those that are read one after the other
   pub parts-places : (at n : ℕ) → parts_in s (span_places s at n) ≡ rows span_size parts_of n (drop at s)
   unfolding span_places parts_in rows
   parts-places at zero = refl
   parts-places at (suc n) =
-      ap (λ ps. parts_of (drop at s) ∷ ps) (parts-places _ n ∙ ap (rows span_size parts_of n) (after-drops at _ s refl))
+      ap (λ ps. parts_of (drop at s) ∷ ps) (parts-places (min (at + span_size (drop at s)) (length s)) n ∙ ap (rows span_size parts_of n) (after-drops at _ s refl))
 
   -- and none is past the end of the record
   pub places-within : (at n : ℕ) → at ≤ length s → All (λ p. p ≤ length s) (span_places s at n)
   unfolding span_places
   places-within at zero h = All.none
-  places-within at (suc n) h = All.more h (places-within _ n (min-le_right _ _))
+  places-within at (suc n) h = All.more h (places-within (min (at + span_size (drop at s)) (length s)) n (min-le_right _ _))
 
   -- i of them are put, and the next stands at p
   abbrev pub placed : List ℕ → ℕ → ℕ → List ℕ
