@@ -1,0 +1,140 @@
+use native.Mathlib.Omega.{arith}
+use Prim.Native.Nat.{ℕ, ◌<◌}
+use mathlib.Core.Path.{refl, sym, ap, ◌∙◌}
+use mathlib.Core.Bool.{true}
+use mathlib.Core.List.{map}
+use lib.ListN.{length, length-set, drop}
+use borrow.Author.Tests.{lt-ltb}
+use Rattle.spec.specs.Decode.{glyph_of}
+use Rattle.spec.specs.Cluster.{form_glyph_clusters}
+use Rattle.job_rows.specs.Rows.{fonts_in, spans_in}
+use Rattle.clustering.proofs.Glyphs.{widths-part}
+use Rattle.clustering.proofs.Kept.{kept, of-font, of-span}
+use Rattle.clustering.proofs.LoopSteps.{groups_from, Run, groups-start, groups-end, groups-kept, groups-passed, groups-room, groups-turn, groups-all, formed, formed-none, formed-all, formed-turn, indexes-none, indexes-turn}
+use Rattle.clustering.proofs.chunk.form_clusters.Goals as goal
+use Rattle.clustering.proofs.chunk.form_clusters.Goals.{After-chunk_span_at-k, After-words-1, Then-k-spans}
+
+-- where a span is found that covers the run, seen from where the cluster is stored
+abbrev c : After-words-1 → Then-k-spans
+c stored = stored.before.before.before.before.before.before.before.before.before
+
+run_at : (c : After-chunk_span_at-k) →
+    let a = (call c).args in
+    Run a.s.now a.spans.now a.merged.now c.loop-i.i c.run_end-end.result c.chunk_span_at-k.result
+run_at c =
+    record {
+      ends = c.run_end-end.ensures;
+      span = rw (← c.index_in.ensures) c.chunk_span_at-k.ensures;
+    }
+
+-- the run that is covered has a row
+room_at : (c : Then-k-spans) →
+    let l = c.loop-i in
+    (l.n < length l.floats) × (l.n < length l.words)
+room_at c =
+    let l = c.loop-i in
+    let given = (call c).requires in
+    let room = groups-room (run_at c) c.if-k-spans.true l.n l.invariant.4 in
+    (omega (arith, room, given.float_rows, l.invariant.0), omega (arith, room, given.word_rows, l.invariant.1))
+
+pub loop-i-init : goal.loop-i-init
+loop-i-init c =
+    let a = c.args in
+    let form = form_glyph_clusters (fonts_in a.s.now a.fonts) (spans_in a.s.now a.spans.now) in
+    let all_left = groups-start a.s.now a.spans.now a.merged.now in (
+      refl,
+      refl,
+      omega arith,
+      omega arith,
+      omega (arith, ap length all_left),
+      formed-none form a.floats.now a.words.now (groups_from a.s.now a.spans.now a.merged.now 0) ∙ ap (map form) all_left,
+      indexes-none _ a.words.now,
+      (λ h. let z : ⊥ = omega (arith, c.no_measures-m.ensures) in absurd z),
+    )
+
+pub next_measures-m-requires : goal.next_measures-m-requires
+next_measures-m-requires c =
+    (c.loop-i.invariant.7, c.if-k-spans.true)
+
+pub form_glyph_clusters-requires : goal.form_glyph_clusters-requires
+form_glyph_clusters-requires c =
+    let m = c.next_measures-m.ensures in
+    let run = c.run_end-end.ensures in
+    let a = (call c).args in
+    let given = (call c).requires in (
+      record { some = run.1; inside = run.2; widths = widths-part a.s.now a.merged.now _ c.loop-i.i given.widths },
+      omega (arith, run.2, given.few_glyphs),
+      omega (arith, c.if-k-spans.true, given.few_spans),
+      c.first_glyph-first.ensures ∙ ap (λ (p : ℕ). glyph_of (drop p a.s.now)) c.place_in.ensures,
+      of-font a.s.now a.fonts a.spans.now m,
+    )
+
+pub put_cluster-requires : goal.put_cluster-requires
+put_cluster-requires c = room_at c
+
+pub overflow_add-n : goal.overflow_add-n
+overflow_add-n c =
+    let turn = (covered c).before.before.before.before in
+    omega (arith, turn.loop-test.taken, turn.before.loop.inv.2, (call turn.before).pre.few_glyphs)
+
+pub loop-i-smaller-then-k-spans : goal.loop-i-smaller-then-k-spans
+loop-i-smaller-then-k-spans c =
+    let ended = (covered c).before.before.before in
+    omega (arith, ended.before.loop-test.taken, ended.run-end.ensures.1)
+
+pub loop-i-preserved-then-k-spans : goal.loop-i-preserved-then-k-spans
+loop-i-preserved-then-k-spans c =
+    let put = c.put_cluster.ensures in
+    let r = c.form_glyph_clusters in
+    let m = c.next_measures-m.ensures in
+    let h = (covered c).if1.true in
+    let room = room_at (covered c) in
+    let run = run_at (covered c).before in
+    let at = (covered c).before.before.before.before.before in
+    let a = (call at).args in
+    let l = at.loop in
+    let form = form_glyph_clusters (fonts_in a.s.now a.fonts) (spans_in a.s.now a.spans.now) in
+    let cluster = r.ensures.0 (spans_in a.s.now a.spans.now) (of-span a.s.now a.fonts a.spans.now m) in (
+      rw (put.0, length-set l.floats) l.inv.0,
+      rw (put.1, length-set l.words) l.inv.1,
+      omega (arith, l.inv.2, run.ends.1),
+      run.ends.2,
+      groups-turn run h l.n l.inv.4,
+      formed-turn l.floats l.words l.n r.result put.0 put.1 room.1 form cluster (groups-kept run h) room.0 ∙ l.inv.5,
+      indexes-turn l.floats l.words l.n r.result put.0 put.1 room.1 _ (lt-ltb _ _ r.ensures.1) l.inv.6,
+      kept a.s.now a.fonts a.spans.now m,
+    )
+
+pub loop-i-smaller : goal.loop-i-smaller
+loop-i-smaller c =
+    omega (arith, c.loop-i-test.true, c.run_end-end.ensures.1)
+
+pub loop-i-preserved : goal.loop-i-preserved
+loop-i-preserved c =
+    let run = run_at c in
+    let a = (call c).args in
+    let l = c.loop-i in
+    let form = form_glyph_clusters (fonts_in a.s.now a.fonts) (spans_in a.s.now a.spans.now) in
+    let next = groups-passed run c.if-k-spans.false in (
+      l.invariant.0,
+      l.invariant.1,
+      omega (arith, l.invariant.2, run.ends.1),
+      run.ends.2,
+      rw next c l.invariant.4,
+      ap (formed form l.floats l.words l.n) (sym next) ∙ l.invariant.5,
+      l.invariant.6,
+      l.invariant.7,
+    )
+
+pub returns : goal.returns
+returns c =
+    let l = c.loop-i in
+    let a = (call c).args in
+    let form = form_glyph_clusters (fonts_in a.s.now a.fonts) (spans_in a.s.now a.spans.now) in
+    let none = groups-end a.s.now a.spans.now a.merged.now l.i c.loop-i-test.false in
+    record {
+      clusters = sym (formed-all form l.floats l.words l.n none) ∙ l.invariant.5;
+      few = omega (arith, l.invariant.2, l.invariant.3);
+      count = groups-all a.s.now a.spans.now a.merged.now l.n l.i l.invariant.4 none;
+      indexes = l.invariant.6;
+    }
