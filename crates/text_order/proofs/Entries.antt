@@ -34,7 +34,7 @@ inserted done es = foldl (λ (fs : List Entry) (e : Entry). insert e fs) done es
 
 all_inserted : {P : Entry → Type 0} {done es : List Entry} → All P done → All P es → All P (inserted done es)
 all_inserted p All.none = p
-all_inserted p (All.more {x = e} q qs) = all_inserted (all-entry e q p) qs
+all_inserted {done = done} p (All.more {x = e} q qs) = all_inserted {done = insert e done} (all-entry e q p) qs
 
 -- what holds of each entry holds of each in text order
 pub all-order : {P : Entry → Type 0} (is : List ℕ) → All P (entries 0 is) → All P (logical_order is)

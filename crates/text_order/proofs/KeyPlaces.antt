@@ -1,6 +1,6 @@
 -- Which entry of the text order a sorted key is. Assumes nothing.
 use Prim.Native.Nat.{ℕ, zero, suc, ◌+◌, ◌-◌, ◌/◌, ◌%◌, ◌≤◌, ◌<◌}
-use mathlib.Core.Path.{◌≡◌, ◌∙◌}
+use mathlib.Core.Path.{◌≡◌, subst, sym, ◌∙◌}
 use mathlib.Core.Bool.{Bool, true}
 use mathlib.Core.List.{List, [], ◌∷◌}
 use native.Mathlib.Nat.{lt_of_lt_of_le}
@@ -47,7 +47,8 @@ any_place n k [] h = absurd (omega arith)
 any_place n zero (i ∷ is) h = rw (eq-eqb n (n + 0) (omega arith))
 any_place n (suc k) (i ∷ is) h =
     let e : n + suc k ≡ suc n + k = omega arith in
-    rw (ne_eqb n (n + suc k) (omega arith), e) (any_place (suc n) k is (omega arith))
+    rw (ne_eqb n (n + suc k) (omega arith))
+    (subst (λ (m : ℕ). any (λ (f : Entry). eqb f.place m) (entries (suc n) is) ≡ true) (sym e) (any_place (suc n) k is (omega arith)))
 
 -- every place has its key
 pub key-of-place : (is : List ℕ) (k : ℕ) → length is ≤ 65536 → k < length is

@@ -24,11 +24,11 @@ module _ (e : Entry) (h : e.place < 65536) where
 -- ---- the keys
 
 -- a later place goes behind those of its byte index, as its key does
-insert_key : (e : Entry) {es : List Entry} → e.place < 65536 → All (λ f. f.place < e.place) es → map key_of (insert e es) ≡ insert_key (key_of e) (map key_of es)
+insert_key_lem : (e : Entry) {es : List Entry} → e.place < 65536 → All (λ f. f.place < e.place) es → map key_of (insert e es) ≡ insert_key (key_of e) (map key_of es)
 unfolding insert insert_key
-insert_key e g All.none = refl
-insert_key e g (All.more {x = f} {xs = fs} h hs) =
-    let more = insert_key e g hs in
+insert_key_lem e g All.none = refl
+insert_key_lem e g (All.more {x = f} {xs = fs} h hs) =
+    let more = insert_key_lem e g hs in
     in_order f.index e.index
     (λ p. rw (entry_past e f fs p, insert-past (key_of e) (key_of f) (map key_of fs) (omega arith)) (ap {B = List ℕ} (λ r. key_of f ∷ r) more))
     (λ p. rw (entry_here e f fs p, insert-here (key_of e) (key_of f) (map key_of fs) (omega arith)))
@@ -39,7 +39,7 @@ unfolding entries
 insert-keys-of k [] h g = refl
 insert-keys-of k (i ∷ is) {done} h g =
     insert-keys-of (suc k) is (earlier-next i k h) (omega arith)
-    ∙ ap (λ (ks : List ℕ). foldl (λ (zs : List ℕ) (z : ℕ). insert_key z zs) ks (map key_of (entries (suc k) is))) (insert_key (record { index = i; place = k }) (omega arith) h)
+    ∙ ap (λ (ks : List ℕ). foldl (λ (zs : List ℕ) (z : ℕ). insert_key z zs) ks (map key_of (entries (suc k) is))) (insert_key_lem (record { index = i; place = k }) (omega arith) h)
 
 pub order-keys : (is : List ℕ) → length is ≤ 65536 → map key_of (logical_order is) ≡ sorted (keys_of is)
 unfolding logical_order
