@@ -40,9 +40,9 @@ module _ (angle : Float) (before c : Cluster) where
   unfolding marked_by
   marked-index = refl
 
-  pub marked_by : (job : Job) (text : List ℕ) (offset : ℕ) → get_or job.rotate (character_number text offset c.index) +0 ≡ angle → marked_by angle before c ≡ marked job text offset before c
+  pub marked_by_lem : (job : Job) (text : List ℕ) (offset : ℕ) → get_or job.rotate (character_number text offset c.index) +0 ≡ angle → marked_by angle before c ≡ marked job text offset before c
   unfolding marked
-  marked_by job text offset e = rw e
+  marked_by_lem job text offset e = rw e
 
 -- ---- the byte indexes stay
 

@@ -38,7 +38,7 @@ all_insert {P} e p (All.more {x = f} {xs = fs} q qs) = cond-keeps (All P) (leb f
 
 all_inserted : {P : Entry → Type 0} {done es : List Entry} → All P done → All P es → All P (foldl (λ (es : List Entry) (e : Entry). insert e es) done es)
 all_inserted ps All.none = ps
-all_inserted ps (All.more {x = e} q qs) = all_inserted (all_insert e q ps) qs
+all_inserted {done = done} ps (All.more {x = e} q qs) = all_inserted {done = insert e done} (all_insert e q ps) qs
 
 order-stands : (is : List ℕ) → All (Stands is) (logical_order is)
 unfolding logical_order

@@ -8,7 +8,7 @@ use Rattle.spec.specs.Position.{marked}
 use Rattle.cluster_table.specs.Clusters.{Cluster, indexes_in}
 use Rattle.job_rows.specs.Rows.{job_at}
 use Rattle.cluster_table.proofs.LoopSteps.{stored, stage-turn, stage-done}
-use Rattle.position.proofs.Marking.{marked-index, marked_by, last, indexes-set, mark-start, angle-at}
+use Rattle.position.proofs.Marking.{marked-index, marked_by_lem, last, indexes-set, mark-start, angle-at}
 use Rattle.position.proofs.relative.mark_relative_shifts.Goals as goal
 
 pub cluster_at-before-requires : goal.cluster_at-before-requires
@@ -50,7 +50,7 @@ put_cluster-requires c =
 
 pub overflow_add-i : goal.overflow_add-i
 overflow_add-i c =
-    omega (arith, c.loop-i-test.true, c.fits.n.fits)
+    omega (arith, c.loop-i-test.true, c.ranges.n.fits)
 
 pub loop-i-preserved : goal.loop-i-preserved
 loop-i-preserved c =
@@ -74,7 +74,7 @@ loop-i-preserved c =
           stage-turn (last job text offset) (marked job text offset) l.before at.result l.floats l.words a.n l.i at.result c.mark.result
           at.ensures
           (c.mark.ensures
-          ∙ marked_by c.float_in-angle.result l.before at.result job text offset
+          ∙ marked_by_lem c.float_in-angle.result l.before at.result job text offset
           (angle-at job text offset _ a.numbers.now a.words.now l.words a.n l.i c.number_at.result c.float_in-angle.result at.result.index
           er en l.invariant.3 h rows.1 c.number_at.ensures c.float_in-angle.ensures index))
           refl stored.0 stored.1 h rows.0 rows.1

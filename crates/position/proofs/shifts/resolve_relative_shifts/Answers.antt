@@ -41,7 +41,7 @@ put_floats-requires c =
     omega (arith, inside, c.requires.0, c.loop-i.invariant.0)
 
 pub overflow_add-i : goal.overflow_add-i
-overflow_add-i c = omega (arith, c.loop-i-test.true, c.fits.n.fits)
+overflow_add-i c = omega (arith, c.loop-i-test.true, c.ranges.n.fits)
 
 pub loop-i-smaller : goal.loop-i-smaller
 loop-i-smaller c = omega (arith, c.loop-i-test.true)
