@@ -8,9 +8,11 @@ mod run;
 ghost use Rattle.std.specs.Prelude.{◌≤◌};
 
 use column_window::{WINDOW_WORDS, open_window};
-use libc::STDOUT_FILENO;
+use std::env;
 use wire::read::{u8_at, u32_at};
 use wire::slice::tail;
+
+const STDOUT: i32 = 1;
 
 // Of a longer file no more is read.
 const ROOM: usize = 4_096;
@@ -39,9 +41,9 @@ fn lent_words(file: &[u8]) -> usize
 
 fn show_window(window: &mut [u32], file: &[u8]) {
     let opened = open_window(window, u32_at(file, SPAN_AT));
-    io::write_all(STDOUT_FILENO, b" ");
-    io::print_decimal(STDOUT_FILENO, opened.number as u64);
-    io::write_all(STDOUT_FILENO, b"\n");
+    io::write_all(STDOUT, b" ");
+    io::print_decimal(STDOUT, opened.number as u64);
+    io::write_all(STDOUT, b"\n");
     run::show(feed::feed_rows(window, tail(file, ROWS_AT)));
 }
 
@@ -59,10 +61,10 @@ fn past_kept(words: &[u32; WORDS]) -> bool {
 
 fn show_past(words: &[u32; WORDS]) {
     if past_kept(words) {
-        io::write_all(STDOUT_FILENO, b"past kept\n");
+        io::write_all(STDOUT, b"past kept\n");
         return;
     }
-    io::write_all(STDOUT_FILENO, b"past changed\n");
+    io::write_all(STDOUT, b"past changed\n");
 }
 
 fn show_case(file: &[u8]) {
@@ -72,24 +74,18 @@ fn show_case(file: &[u8]) {
     show_past(&words);
 }
 
-fn show_read(fd: i32) {
-    let mut file = [0u8; ROOM];
-    let n = io::read_full(fd, &mut file);
-    show_case(&file[..n]);
+fn show_file(rt: &HostRuntime, path: &str) -> std::io::Result<()> {
+    if let Some(mut named) = named_files::open_argument(rt, path)? {
+        let mut file = [0u8; ROOM];
+        let n = named_files::read_full(&mut named, &mut file)?;
+        show_case(&file[..n]);
+    }
+    Ok(())
 }
 
-fn show_file(i: usize) {
-    let fd = named_files::open_argument(i);
-    if fd < 0 {
-        return;
+fn main(rt: HostRuntime) -> std::io::Result<()> {
+    for path in env::args(&rt)?.skip(1) {
+        show_file(&rt, path.as_str())?;
     }
-    show_read(fd);
-    libc::close(fd);
-}
-
-fn main() {
-    let end = os::arg_count();
-    for i in 1..end {
-        show_file(i);
-    }
+    Ok(())
 }

@@ -1,8 +1,9 @@
 // A run of equal answers, one after the other.
 use column_window::Width;
-use libc::STDOUT_FILENO;
 use std::num::wrapping_add_u64;
 use wire::write::bits_of;
+
+const STDOUT: i32 = 1;
 
 // The width is kept and printed as its pattern, in eight digits.
 const FLOAT_DIGITS: usize = 8;
@@ -27,12 +28,12 @@ pub fn show(run: Run) {
     if run.times == 0 {
         return;
     }
-    io::print_decimal(STDOUT_FILENO, run.times);
-    io::write_all(STDOUT_FILENO, b" ");
-    io::print_decimal(STDOUT_FILENO, run.number as u64);
-    io::write_all(STDOUT_FILENO, b" ");
-    io::print_hex(STDOUT_FILENO, run.bits as u64, FLOAT_DIGITS);
-    io::write_all(STDOUT_FILENO, b"\n");
+    io::print_decimal(STDOUT, run.times);
+    io::write_all(STDOUT, b" ");
+    io::print_decimal(STDOUT, run.number as u64);
+    io::write_all(STDOUT, b" ");
+    io::print_hex(STDOUT, run.bits as u64, FLOAT_DIGITS);
+    io::write_all(STDOUT, b"\n");
 }
 
 // The run with one answer more. Where that is another, the run is printed and a new one starts.

@@ -1,20 +1,22 @@
 // Lays out the job in each file that an argument names, and prints the file's name and then the layout in document 01's text form.
 #![tactic(auto)]
-use libc::STDOUT_FILENO;
+use std::env;
 
-fn show_file(i: usize) {
-    let fd = named_files::open_argument(i);
-    if fd < 0 {
-        return;
+const STDOUT: i32 = 1;
+
+fn show_file(rt: &HostRuntime, path: &str) -> std::io::Result<()> {
+    if let Some(mut file) = named_files::open_argument(rt, path)? {
+        let mut job = [0u8; text_form::JOB_ROOM];
+        let n = named_files::read_full(&mut file, &mut job)?;
+        io::write_all(STDOUT, b"\n");
+        text_form::show_job(&job[..n]);
     }
-    io::write_all(STDOUT_FILENO, b"\n");
-    text_form::show_layout(fd);
-    libc::close(fd);
+    Ok(())
 }
 
-fn main() {
-    let end = os::arg_count();
-    for i in 1..end {
-        show_file(i);
+fn main(rt: HostRuntime) -> std::io::Result<()> {
+    for path in env::args(&rt)?.skip(1) {
+        show_file(&rt, path.as_str())?;
     }
+    Ok(())
 }

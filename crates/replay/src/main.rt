@@ -9,9 +9,11 @@ ghost use Rattle.spec.specs.Lists.{all};
 ghost use Rattle.replay.specs.Same.{same};
 
 use layout::{Answered, layout_text};
-use libc::STDOUT_FILENO;
+use std::env;
 use wire::read::u32_at;
 use wire::slice::{offset_after, tail, window};
+
+const STDOUT: i32 = 1;
 
 // Of a longer file no more is read: a record that is cut off differs.
 const FILE_ROOM: usize = 131_072;
@@ -53,11 +55,11 @@ fn agrees(record: &[u8]) -> bool {
 }
 
 fn show_counts(agree: usize, differ: usize) {
-    io::write_all(STDOUT_FILENO, b" ");
-    io::print_decimal(STDOUT_FILENO, agree as u64);
-    io::write_all(STDOUT_FILENO, b" agree, ");
-    io::print_decimal(STDOUT_FILENO, differ as u64);
-    io::write_all(STDOUT_FILENO, b" differ\n");
+    io::write_all(STDOUT, b" ");
+    io::print_decimal(STDOUT, agree as u64);
+    io::write_all(STDOUT, b" agree, ");
+    io::print_decimal(STDOUT, differ as u64);
+    io::write_all(STDOUT, b" differ\n");
 }
 
 fn replay_records(file: &[u8]) {
@@ -75,24 +77,18 @@ fn replay_records(file: &[u8]) {
     show_counts(agree, count - agree);
 }
 
-fn replay_read(fd: i32) {
-    let mut file = [0u8; FILE_ROOM];
-    let n = io::read_full(fd, &mut file);
-    replay_records(&file[..n]);
+fn replay_file(rt: &HostRuntime, path: &str) -> std::io::Result<()> {
+    if let Some(mut named) = named_files::open_argument(rt, path)? {
+        let mut file = [0u8; FILE_ROOM];
+        let n = named_files::read_full(&mut named, &mut file)?;
+        replay_records(&file[..n]);
+    }
+    Ok(())
 }
 
-fn replay_file(i: usize) {
-    let fd = named_files::open_argument(i);
-    if fd < 0 {
-        return;
+fn main(rt: HostRuntime) -> std::io::Result<()> {
+    for path in env::args(&rt)?.skip(1) {
+        replay_file(&rt, path.as_str())?;
     }
-    replay_read(fd);
-    libc::close(fd);
-}
-
-fn main() {
-    let end = os::arg_count();
-    for i in 1..end {
-        replay_file(i);
-    }
+    Ok(())
 }

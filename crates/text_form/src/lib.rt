@@ -7,11 +7,12 @@ use layout::Answered;
 use wire::slice::window;
 
 // One byte more than a job may have, so that a longer one is seen to be longer.
-const JOB_ROOM: usize = 65_537;
+pub const JOB_ROOM: usize = 65_537;
 
 const ANSWER_ROOM: usize = 65_536;
 
-fn show_job(job: &[u8]) {
+// A job's layout.
+pub fn show_job(job: &[u8]) {
     let mut answer = [0u8; ANSWER_ROOM];
     let answered = layout::layout_text(job, &mut answer);
     match answered {
