@@ -1,5 +1,6 @@
 // Where the fields of an answer's rows stand, and how many bytes a row has: for those who write answers and those who read them.
 #![tactic(auto)]
+
 ghost use Rattle.std.specs.Prelude.{◌≡◌};
 ghost use Rattle.spec.specs.Answer.{cluster_row_size_of, span_row_size_of};
 

@@ -1,6 +1,7 @@
 // Clusters in two lists of rows that their owner lends: ten floats and six words for each. A stage reads a row as a Cluster, works on that
 // by value, and stores it again, so that nothing is copied but the row.
 #![tactic(auto)]
+
 ghost use Rattle.std.specs.Prelude.{◌≡◌, ◌<◌, ◌≤◌, length, get_or, set, []};
 ghost use Rattle.cluster_table.specs.Clusters.{bit_of, cluster_of, floats_of, words_of};
 

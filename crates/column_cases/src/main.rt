@@ -2,6 +2,7 @@
 // Prints the file's name and the number that the opening gave; then each run of equal answers; and last whether the words past the window
 // are as they were.
 #![tactic(auto)]
+
 mod feed;
 mod run;
 

@@ -1,5 +1,6 @@
 // Decoration runs: the stretches of neighbouring clusters of a span that are drawn with one line.
 #![tactic(auto)]
+
 ghost use Rattle.std.specs.Prelude.{◌≡◌, ◌+◌, ◌*◌, ◌≤◌, ◌<◌, length, get_or};
 ghost use mathlib.Core.List.{[], flat_map};
 ghost use Rattle.spec.specs.Decoration.{collect_decoration_spans};

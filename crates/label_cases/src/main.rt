@@ -1,5 +1,6 @@
 // Lays out the job in each file that an argument names, and prints the file's name and then the layout in document 01's text form.
 #![tactic(auto)]
+
 use std::env;
 
 const STDOUT: i32 = 1;

@@ -1,5 +1,6 @@
 // The layout as a C program calls it: include/layout.h declares what stands here. A slice is a pointer and a length to C.
 #![tactic(auto)]
+
 pub mod column;
 
 ghost use Rattle.std.specs.Prelude.{◌≡◌, ◌<◌};

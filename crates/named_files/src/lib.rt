@@ -1,5 +1,6 @@
 // The files that a program's arguments name.
 #![tactic(auto)]
+
 ghost use Rattle.std.specs.Prelude.{◌≤◌, length, IfOk};
 
 use std::fs::File;

@@ -1,5 +1,6 @@
 // Step 7: the clusters along the line (the Rust's `resolve_clusters_positions_horizontal`).
 #![tactic(auto)]
+
 pub mod line;
 pub mod line_extent;
 pub mod order;

@@ -1,6 +1,7 @@
 // Replays stored jobs: for each file that an argument names, prints its name, of how many of its records the call gives what is stored, and
 // of how many it does not.
 #![tactic(auto)]
+
 mod record;
 mod same;
 

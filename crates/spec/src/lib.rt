@@ -1,5 +1,6 @@
 // The values that the definitions of specs/ and the code share. A struct or an enum here is a type there, under `specs.declared`.
 #![tactic(auto)]
+
 ghost use Rattle.std.specs.Prelude.{◌≡◌};
 ghost use Rattle.spec.specs.Job.{limits};
 ghost use Rattle.spec.specs.Merge.{span_contains};

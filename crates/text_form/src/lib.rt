@@ -1,5 +1,6 @@
 // A job is laid out, and the answer or the refusal is printed in document 01's text form.
 #![tactic(auto)]
+
 mod line;
 mod show;
 

@@ -1,5 +1,6 @@
 // The text order of the clusters, and the number of each cluster's character.
 #![tactic(auto)]
+
 ghost use Rattle.std.specs.Prelude.{◌≡◌, cond, map, ◌+◌, ◌≤◌, ◌<◌, length, take, drop};
 ghost use Rattle.spec.specs.Utf8.{continues, characters};
 ghost use Rattle.spec.specs.Position.{logical_order, character_number};

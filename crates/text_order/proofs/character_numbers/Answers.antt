@@ -25,15 +25,15 @@ bounds-words-place c =
 pub overflow_add-number : goal.overflow_add-number
 overflow_add-number c =
     let next-number : Next c.args.text.now c.requires.2 c.args.offset c.loop-k.at c.loop-k.k c.wide-end.result (c.loop-k.number + c.characters_between-number.result) =
-        let l = c.loop-k in
-        walk-next c.args.text.now c.requires.2 c.args.offset l.at l.k (omega arith) l.invariant.3 c.wide-end.ensures l.invariant.2 c.characters_between-number.ensures in
+    let l = c.loop-k in
+    walk-next c.args.text.now c.requires.2 c.args.offset l.at l.k (omega arith) l.invariant.3 c.wide-end.ensures l.invariant.2 c.characters_between-number.ensures in
     omega (arith, next-number.small, c.requires.0)
 
 pub overflow_cast-numbers : goal.overflow_cast-numbers
 overflow_cast-numbers c =
     let next-number : Next c.args.text.now c.requires.2 c.args.offset c.loop-k.at c.loop-k.k c.wide-end.result (c.loop-k.number + c.characters_between-number.result) =
-        let l = c.loop-k in
-        walk-next c.args.text.now c.requires.2 c.args.offset l.at l.k (omega arith) l.invariant.3 c.wide-end.ensures l.invariant.2 c.characters_between-number.ensures in
+    let l = c.loop-k in
+    walk-next c.args.text.now c.requires.2 c.args.offset l.at l.k (omega arith) l.invariant.3 c.wide-end.ensures l.invariant.2 c.characters_between-number.ensures in
     omega (arith, next-number.small, c.requires.0)
 
 pub offset_bounds-numbers-place : goal.offset_bounds-numbers-place
@@ -49,8 +49,8 @@ bounds-numbers-place c =
 pub loop-k-preserved : goal.loop-k-preserved
 loop-k-preserved c =
     let next-number : Next c.args.text.now c.requires.2 c.args.offset c.loop-k.at c.loop-k.k c.wide-end.result (c.loop-k.number + c.characters_between-number.result) =
-        let l = c.loop-k in
-        walk-next c.args.text.now c.requires.2 c.args.offset l.at l.k (omega arith) l.invariant.3 c.wide-end.ensures l.invariant.2 c.characters_between-number.ensures in
+    let l = c.loop-k in
+    walk-next c.args.text.now c.requires.2 c.args.offset l.at l.k (omega arith) l.invariant.3 c.wide-end.ensures l.invariant.2 c.characters_between-number.ensures in
     let l = c.loop-k in
     let a = c.args in
     let next = next-number in (

@@ -31,8 +31,8 @@ loop-i-init c =
 pub cluster_at-c-requires : goal.cluster_at-c-requires
 cluster_at-c-requires c =
     let rows_at : let n = c.args.n in (n ≤ length c.loop-i.floats) × (n ≤ length c.loop-i.words) =
-        let given = c.requires in
-        (omega (arith, c.loop-i.invariant.0, given.0.rows), omega (arith, c.loop-i.invariant.1, given.1)) in
+    let given = c.requires in
+    (omega (arith, c.loop-i.invariant.0, given.0.rows), omega (arith, c.loop-i.invariant.1, given.1)) in
     let rows = rows_at in
     (omega (arith, c.loop-i-test.true, rows.0), omega (arith, c.loop-i-test.true, rows.1))
 
@@ -43,8 +43,8 @@ number_at-requires c =
 pub put_cluster-requires : goal.put_cluster-requires
 put_cluster-requires c =
     let rows_at : let n = c.args.n in (n ≤ length c.loop-i.floats) × (n ≤ length c.loop-i.words) =
-        let given = c.requires in
-        (omega (arith, c.loop-i.invariant.0, given.0.rows), omega (arith, c.loop-i.invariant.1, given.1)) in
+    let given = c.requires in
+    (omega (arith, c.loop-i.invariant.0, given.0.rows), omega (arith, c.loop-i.invariant.1, given.1)) in
     let rows = rows_at in
     (omega (arith, c.loop-i-test.true, rows.0), omega (arith, c.loop-i-test.true, rows.1))
 
@@ -55,8 +55,8 @@ overflow_add-i c =
 pub loop-i-preserved : goal.loop-i-preserved
 loop-i-preserved c =
     let rows_at : let n = c.args.n in (n ≤ length c.loop-i.floats) × (n ≤ length c.loop-i.words) =
-        let given = c.requires in
-        (omega (arith, c.loop-i.invariant.0, given.0.rows), omega (arith, c.loop-i.invariant.1, given.1)) in
+    let given = c.requires in
+    (omega (arith, c.loop-i.invariant.0, given.0.rows), omega (arith, c.loop-i.invariant.1, given.1)) in
     let l = c.loop-i in
     let a = c.args in
     let at = c.cluster_at-c in
@@ -84,8 +84,8 @@ loop-i-preserved c =
 pub returns : goal.returns
 returns c =
     let rows_at : let n = c.args.n in (n ≤ length c.loop-i.floats) × (n ≤ length c.loop-i.words) =
-        let given = c.requires in
-        (omega (arith, c.loop-i.invariant.0, given.0.rows), omega (arith, c.loop-i.invariant.1, given.1)) in
+    let given = c.requires in
+    (omega (arith, c.loop-i.invariant.0, given.0.rows), omega (arith, c.loop-i.invariant.1, given.1)) in
     let l = c.loop-i in
     let a = c.args in
     let rows = rows_at in

@@ -24,20 +24,20 @@ place_at-place-requires c = omega (arith, c.loop-i-test.true, c.requires.2.count
 pub number_at-number-requires : goal.number_at-number-requires
 number_at-number-requires c =
     let inside : c.place_at-place.result < c.args.n =
-        key-inside c.requires.2 c.loop-i.i c.loop-i-test.true c.place_at-place.ensures in
+    key-inside c.requires.2 c.loop-i.i c.loop-i-test.true c.place_at-place.ensures in
     omega (arith, inside, c.requires.1)
 
 pub cluster_at-c-requires : goal.cluster_at-c-requires
 cluster_at-c-requires c =
     let inside : c.place_at-place.result < c.args.n =
-        key-inside c.requires.2 c.loop-i.i c.loop-i-test.true c.place_at-place.ensures in
+    key-inside c.requires.2 c.loop-i.i c.loop-i-test.true c.place_at-place.ensures in
     let given = c.requires in
     (omega (arith, inside, given.0, c.loop-i.invariant.0), omega (arith, inside, given.2.rows))
 
 pub put_floats-requires : goal.put_floats-requires
 put_floats-requires c =
     let inside : c.place_at-place.result < c.args.n =
-        key-inside c.requires.2 c.loop-i.i c.loop-i-test.true c.place_at-place.ensures in
+    key-inside c.requires.2 c.loop-i.i c.loop-i-test.true c.place_at-place.ensures in
     omega (arith, inside, c.requires.0, c.loop-i.invariant.0)
 
 pub overflow_add-i : goal.overflow_add-i
