@@ -34,7 +34,8 @@ run-joined : (g h : Glyph) (hs : List Glyph) (b : Bool) → eqb g.index h.index 
 unfolding glyph_runs join_run find_idx
 run-joined g h hs true e f =
     let i = eqb-true g.index h.index e in
-    rw (i, f, eq-eqb h.index h.index refl)
+    let run = (λ (j : ℕ). (g ∷ h ∷ take (find_idx (other j) hs) hs) ∷ glyph_runs (drop (find_idx (other j) hs) hs)) in
+    rw (f, e, eq-eqb h.index g.index (sym i)) (ap {B = List (List Glyph)} run (sym i))
 run-joined g h hs false e f =
     let i = ne_eqb h.index g.index (λ j. eqb-false g.index h.index e (sym j)) in
     rw (f, e, i) (ap {B = List (List Glyph)} (λ r. (g ∷ []) ∷ r) (sym f))

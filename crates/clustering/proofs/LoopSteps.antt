@@ -62,6 +62,10 @@ pub record Run (s places merged : List ℕ) (i end k : ℕ) : Type 0 where
   pub ends : (end ≡ i + run_length (drop i (glyphs_at s merged))) × (i < end) × (end ≤ length merged)
   pub span : k ≡ chunk_span_at (spans_in s places) (glyph_in s merged i).index
 
+pub run_at : {s places merged : List ℕ} {i end index k : ℕ} → (end ≡ i + run_length (drop i (glyphs_at s merged))) × (i < end) × (end ≤ length merged)
+    → index ≡ (glyph_in s merged i).index → k ≡ chunk_span_at (spans_in s places) index → Run s places merged i end k
+run_at ends at covers = record { ends = ends; span = rw (← at) covers }
+
 module _ {s places merged : List ℕ} {i end k : ℕ} (run : Run s places merged i end k) where
   pub groups-passed : length places ≤ k → groups_from s places merged i ≡ groups_from s places merged end
   groups-passed h =

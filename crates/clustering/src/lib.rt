@@ -2,6 +2,7 @@
 // `process_chunk`). `merged` are the places of the merged glyphs' rows in the record `s`, and `spans` those of the chunk's
 // spans.
 #![tactic(auto)]
+
 pub mod chunk;
 pub mod few;
 pub mod first;

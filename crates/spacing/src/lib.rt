@@ -1,5 +1,6 @@
 // Steps 3, 4 and 5: writing mode, letter spacing and word spacing, each a function of one cluster and a loop over the stored ones.
 #![tactic(auto)]
+
 pub mod character;
 pub mod letter;
 pub mod mode;

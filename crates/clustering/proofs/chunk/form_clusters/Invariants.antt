@@ -20,7 +20,7 @@ invariant-loop-i l =
     (length l.floats ≡ length l.initial.floats) × (length l.words ≡ length l.initial.words) × (l.n ≤ l.i) × (l.i ≤ length l.merged)
     × Counted l.s l.spans l.merged l.n l.i
     × (formed form l.floats l.words l.n (groups_from l.s l.spans l.merged l.i) ≡ map form (groups (spans_in l.s l.spans) (glyphs_at l.s l.merged)))
-    × (all (λ (l.i : ℕ). ltb l.i 65536) (indexes_in l.words l.n) ≡ true)
+    × (all (λ (i : ℕ). ltb i 65536) (indexes_in l.words l.n) ≡ true)
     × Kept l.s l.fonts l.spans l.m
 
 abbrev pub decreases-loop-i : goal.decreases-loop-i

@@ -4,22 +4,8 @@ use lib.ListN.{length}
 use borrow.Author.Tests.{le-leb, lt-leb}
 use Rattle.clustering.specs.Groups.{clusters_in}
 use Rattle.clustering.proofs.FewClusters.{clusters-at-most}
-use Rattle.clustering.proofs.LoopSteps.{Run, groups-start, groups-end, groups-passed, groups-room, groups-turn, groups-all}
+use Rattle.clustering.proofs.LoopSteps.{run_at, groups-start, groups-end, groups-passed, groups-room, groups-turn, groups-all}
 use Rattle.clustering.proofs.few.clusters_at_most.Goals as goal
-use Rattle.clustering.proofs.few.clusters_at_most.Goals.{After-chunk_span_at-k, At-loop-i, Start}
-
--- the c, seen from the loop's head
-abbrev c : At-loop-i → Start
-c at = at.before.before.before.before.before
-
-run_at : (c : After-chunk_span_at-k) →
-    let a = (call c).args in
-    Run a.s.now a.spans.now a.merged.now c.loop-i.i c.run_end-end.result c.chunk_span_at-k.result
-run_at c =
-    record {
-      ends = c.run_end-end.ensures;
-      span = rw (← c.index_in.ensures) c.chunk_span_at-k.ensures;
-    }
 
 pub returns-then-merged-most : goal.returns-then-merged-most
 returns-then-merged-most c =
@@ -34,23 +20,23 @@ loop-i-init c =
 
 pub returns-then-n-most : goal.returns-then-n-most
 returns-then-n-most c =
-    let a = (call c).args in
-    let more = groups-room (run_at c) c.if-k-spans.true c.loop-i.n c.loop-i.invariant.1 in
+    let a = c.args in
+    let more = groups-room (run_at c.run_end-end.ensures c.index_in.ensures c.chunk_span_at-k.ensures) c.if-k-spans.true c.loop-i.n c.loop-i.invariant.1 in
     sym (lt-leb (clusters_in a.s.now a.spans.now a.merged.now) a.most (omega arith))
 
 pub loop-i-preserved-else-n-most : goal.loop-i-preserved-else-n-most
 loop-i-preserved-else-n-most c =
     let l = c.loop-i in
-    (omega arith, groups-turn (run_at c) c.if-k-spans.true l.n l.invariant.1)
+    (omega arith, groups-turn (run_at c.run_end-end.ensures c.index_in.ensures c.chunk_span_at-k.ensures) c.if-k-spans.true l.n l.invariant.1)
 
 pub loop-i-preserved : goal.loop-i-preserved
 loop-i-preserved c =
     let l = c.loop-i in
-    (l.invariant.0, rw (groups-passed (run_at c) c.if-k-spans.false) at l.invariant.1)
+    (l.invariant.0, rw (groups-passed (run_at c.run_end-end.ensures c.index_in.ensures c.chunk_span_at-k.ensures) c.if-k-spans.false) at l.invariant.1)
 
 pub returns : goal.returns
 returns c =
-    let a = (call c).args in
+    let a = c.args in
     let l = c.loop-i in
     let none = groups-end a.s.now a.spans.now a.merged.now l.i (omega arith) in
     let all = groups-all a.s.now a.spans.now a.merged.now l.n l.i l.invariant.1 none in

@@ -8,58 +8,39 @@ use Rattle.clustering.specs.declared.measures.Measures.{Measures}
 use Rattle.clustering.specs.Groups.{group_in}
 use Rattle.clustering.proofs.Glyphs.{width-next, part_length}
 use Rattle.clustering.proofs.form.form_glyph_clusters.Goals as goal
-use Rattle.clustering.proofs.form.form_glyph_clusters.Goals.{After-glyph_advances-advances, Start}
-
-abbrev c : After-glyph_advances-advances → Start
-c at-advances = at-advances.before.before.before.before.before
 
 pub measure_at-own-requires : goal.measure_at-own-requires
 measure_at-own-requires c =
     let a = c.args in
     let h = c.requires.0 in
-    rw (to_z-of_z (record { sfits = c.struct_told-1.given.1.1.1.1.1.0.1 }), c.requires.3)
+    rw (to_z-of_z (record { sfits = c.type_inv.first.1.1.1.1.1.0.1 }), c.requires.3)
     (leb-true _ _ (width-next a.s.now a.merged.now a.end a.from h.some h.inside h.widths))
 
 pub glyph_advances-advances-requires : goal.glyph_advances-advances-requires
-glyph_advances-advances-requires c =
-    (
-      c.requires.0,
-      rw (
-        c.measure_at-own.ensures,
-        to_z-of_z (record { sfits = c.struct_told-1.given.1.1.1.1.1.0.1 }),
-        ap (λ (m : Measures). m.scale) c.requires.4,
-        c.requires.3,
-      ),
-    )
-
-pub overflow_cast-result-2 : goal.overflow_cast-result-2
-overflow_cast-result-2 c = let h = (call (measured c)).requires in omega arith
-
-pub overflow_cast-result-3 : goal.overflow_cast-result-3
-overflow_cast-result-3 c = let h = (call (measured c)).requires in omega arith
-
-pub overflow_sub-result : goal.overflow_sub-result
-overflow_sub-result c = let h = (call (measured c)).requires in omega arith
-
-pub overflow_cast-result-4 : goal.overflow_cast-result-4
-overflow_cast-result-4 c = let h = (call (measured c)).requires in omega arith
+glyph_advances-advances-requires c = (
+  c.requires.0,
+  rw (
+    c.measure_at-own.ensures,
+    to_z-of_z (record { sfits = c.type_inv.first.1.1.1.1.1.0.1 }),
+    ap (λ (m : Measures). m.scale) c.requires.4,
+    c.requires.3,
+  ),
+)
 
 pub returns : goal.returns
 unfolding form_glyph_clusters group_in
 returns c =
-    let at-advances = measured c in
-    let start = call at-advances in
-    let a = start.args in
-    let kept = start.pre.4 in (
+    let a = c.args in
+    let kept = c.requires.4 in (
       (λ spans e.
           cc (
-            at-advances.glyph-advances.ensures.0,
-            at-advances.glyph-advances.ensures.1,
+            c.glyph_advances-advances.ensures.0,
+            c.glyph_advances-advances.ensures.1,
             ap (λ (m : Measures). m.ascent) kept,
             ap (λ (m : Measures). m.descent) kept,
             e,
-            start.pre.3,
-            part_length a.s.now a.merged.now a.end a.from start.pre.0.inside,
+            c.requires.3,
+            part_length a.s.now a.merged.now a.end a.from c.requires.0.inside,
           )),
-      omega (arith, c.struct_known-1.given.1.0.fits),
+      omega arith,
     )

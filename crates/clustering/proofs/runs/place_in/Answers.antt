@@ -3,4 +3,4 @@ use native.Mathlib.Omega.{arith}
 use Rattle.clustering.proofs.runs.place_in.Goals as goal
 
 pub overflow_cast-result : goal.overflow_cast-result
-overflow_cast-result c = omega (arith, c.shared_slice_known-1.given c.args.i)
+overflow_cast-result c = omega (arith, c.type_inv.merged c.args.i)

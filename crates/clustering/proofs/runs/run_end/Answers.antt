@@ -8,11 +8,6 @@ use Rattle.spec_laws.proofs.Search.{find-here, find-on, find-end}
 use Rattle.clustering.proofs.Glyphs.{merged-next, merged-length}
 use Rattle.clustering.proofs.FirstRun.{is-other, is_same, run-search}
 use Rattle.clustering.proofs.runs.run_end.Goals as goal
-use Rattle.clustering.proofs.runs.run_end.Goals.{At-loop-end, Start}
-
--- the c, seen from the loop's head
-abbrev c : At-loop-end → Start
-c at = at.before.before.before.before
 
 pub loop-end-init : goal.loop-end-init
 loop-end-init c =
@@ -25,7 +20,7 @@ loop-end-init c =
 
 pub returns-then-index_in-index : goal.returns-then-index_in-index
 returns-then-index_in-index c =
-    let a = (call c).args in
+    let a = c.args in
     let l = c.loop-end in
     let gs = glyphs_at a.s.now a.merged.now in
     let next = merged-next a.s.now a.merged.now l.end (omega arith) in
@@ -34,7 +29,7 @@ returns-then-index_in-index c =
 
 pub loop-end-preserved : goal.loop-end-preserved
 loop-end-preserved c =
-    let a = (call c).args in
+    let a = c.args in
     let l = c.loop-end in
     let gs = glyphs_at a.s.now a.merged.now in
     let next = merged-next a.s.now a.merged.now l.end (omega arith) in
@@ -43,7 +38,7 @@ loop-end-preserved c =
 
 pub returns : goal.returns
 returns c =
-    let a = (call c).args in
+    let a = c.args in
     let l = c.loop-end in
     let gs = glyphs_at a.s.now a.merged.now in
     let h : length gs ≤ l.end = rw (merged-length a.s.now a.merged.now) (omega arith) in

@@ -10,7 +10,7 @@ use Rattle.spacing.proofs.letter.next_letter_spaced.Goals as goal
 
 pub returns-then-script_supports_letter_spacing : goal.returns-then-script_supports_letter_spacing
 unfolding next_letter_spaced
-returns-then-script_supports_letter_spacing c =
+returns-then-script_supports_letter_spacing c spans own =
     let a = c.args in
     let test = c.script_supports_letter_spacing in
     let spaced : c.letter_spaced.result ≡ letter_spaced rounded a.letter (eqb a.left 1) a.c = c.letter_spaced.ensures in
@@ -19,7 +19,7 @@ returns-then-script_supports_letter_spacing c =
 
 pub returns : goal.returns
 unfolding next_letter_spaced
-returns c =
+returns c spans own =
     let a = c.args in
     let test = c.script_supports_letter_spacing in
     sym (cond-false (script_supports_letter_spacing a.c.tag) _ _ test.ensures c.if-script_supports_letter_spacing.false)
