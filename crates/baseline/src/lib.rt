@@ -1,5 +1,6 @@
 // Step 8: how far a span's baseline is shifted, and the offsets of its decorations.
 #![tactic(auto)]
+
 pub mod alignment;
 pub mod offset;
 pub mod resolve;

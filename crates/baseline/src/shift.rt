@@ -35,7 +35,7 @@ pub fn add_baseline_shift(font: Font, size: f32, shift: BaselineShift, sum: f32)
 // The sum of the `n` shifts that stand one after the other from `at` on, taken from the last to the first.
 pub fn resolve_baseline_shift(s: &[u8], at: usize, n: usize, font: Font, size: f32) -> f32
     requires { n < 256 }
-    ensures* { λ r. ⌜ r ≡ resolve_baseline_shift font size (rows (λ r. shift_bytes) shift_of n (drop at s.now)) ⌝ }
+    ensures { result ≡ resolve_baseline_shift font size (rows (λ r. shift_bytes) shift_of n (drop at s.now)) }
 {
     let shifts = tail(s, at);
     let mut sum: f32 = 0.0;

@@ -1,12 +1,12 @@
 -- UTF-8 from place to place: past ASCII bytes, and past the bytes that a character expects. Assumes nothing.
 use Prim.Native.Nat.{ℕ, ◌+◌, ◌-◌, ◌<◌, ◌≤◌}
 use mathlib.Core.Path.{◌≡◌, refl, sym, ap, ◌∙◌}
-use mathlib.Core.Bool.{Bool, true, false, not, cond, ◌&&◌, and-false, false≢true}
+use mathlib.Core.Bool.{Bool, true, false, cond, ◌&&◌, and-false, false≢true}
 use mathlib.Core.List.{List, [], ◌∷◌, foldl}
 use native.Mathlib.Omega.{arith}
 use lib.ListN.{length, get_or, drop, length-drop}
 use lib.Dec.{ltb, eqb}
-use borrow.Author.Tests.{ltb-true, lt-ltb, ne_eqb, not-true, not-false}
+use borrow.Author.Tests.{ltb-true, lt-ltb, ne_eqb}
 use Rattle.spec.specs.declared.Utf8State.{Utf8State}
 use Rattle.spec.specs.declared.Utf8State.TheVariants.{Malformed, Expecting}
 use Rattle.spec.specs.Utf8.{boundary, within, lead, next, is_boundary, is_utf8}
@@ -51,11 +51,11 @@ module _ (n low high : ℕ) (text : List ℕ) (i j : ℕ) (r : Bool)
   expects-next =
       rw (q, e, ← fold-turn next (Expecting n low high) text i 0 h, next-expected n low high (get_or text i 0) some, taken) refl
 
-  pub expects-right : not r ≡ false → utf8_after n low high (drop i text) ≡ utf8_after (n - 1) 0x80 0xbf (drop j text)
-  expects-right t = expects-next ∙ rw (not-false r t) refl
+  pub expects-right : r ≡ true → utf8_after n low high (drop i text) ≡ utf8_after (n - 1) 0x80 0xbf (drop j text)
+  expects-right t = expects-next ∙ rw t refl
 
-  pub expects-wrong : not r ≡ true → utf8_after n low high (drop i text) ≡ false
-  expects-wrong t = expects-next ∙ rw (not-true r t) refl
+  pub expects-wrong : r ≡ false → utf8_after n low high (drop i text) ≡ false
+  expects-wrong t = expects-next ∙ rw t refl
 
 -- more than there are
 ends-early : (n low high : ℕ) (bytes : List ℕ) → length bytes < n → utf8_after n low high bytes ≡ false

@@ -1,5 +1,6 @@
 // The values that the fields of a row may have.
 #![tactic(auto)]
+
 use spec::{Font, Glyph, Span};
 use wire::write::bits_of;
 

@@ -16,4 +16,4 @@ returns-in-Superscript c = rw (c.in-Superscript.is, c.superscript_offset.ensures
 
 pub returns-in-Number : goal.returns-in-Number
 unfolding add_baseline_shift
-returns-in-Number c = rw c.shift-1.given.1
+returns-in-Number c = rw c.in-Number.is
