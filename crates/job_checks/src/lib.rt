@@ -1,5 +1,6 @@
 // Checks 1 to 6 of a job, which refuse its record under the first number that it meets.
 #![tactic(auto)]
+
 pub mod check;
 pub mod order;
 pub mod shape;
