@@ -1,41 +1,39 @@
 -- `merge::chunk::merge_span` meets its contract: the span's own list, or its glyphs merged. Assumes nothing.
-use Prim.Native.Nat.{ℕ}
-use mathlib.Core.Path.{refl, ◌∙◌}
+use Prim.Native.Nat.{ℕ, ◌≤◌, ◌<◌}
+use mathlib.Core.Path.{◌≡◌, refl, ◌∙◌}
 use mathlib.Core.List.{List}
 use lib.ListN.{drop}
 use Rattle.spec.specs.Outcome.{given}
-use Rattle.spec.specs.Decode.{parts_of}
+use Rattle.spec.specs.declared.Span.{Span}
+use Rattle.spec.specs.Bytes.{rows as records}
+use Rattle.spec.specs.Decode.{glyph_bytes, glyph_of, parts_of, span_of}
 use Rattle.spec.specs.Merge.{merge_span}
 use Rattle.merge.specs.declared.Merge.{Merge}
-use Rattle.merge.specs.Merged.{glyphs_in, merged_of, merged_into, replaced_places}
-use Rattle.merge.specs.Steps.{stamped, OwnFew, SpanMerged, SpanEnded}
+use Rattle.merge.specs.declared.chunk.GlyphRows.{GlyphRows}
+use Rattle.merge.specs.Merged.{FewGlyphs, glyphs_in, merged_of, merged_into, replaced_places}
+use Rattle.merge.specs.Steps.{stamped, OwnFew, SpanReady, SpanMerged, SpanEnded}
 use Rattle.merge.proofs.Spans.{own-few, own-span, span-first, span_more}
 use native.Mathlib.Omega.{arith}
 use Rattle.merge.proofs.chunk.merge_span.Goals as goal
-use Rattle.merge.proofs.chunk.merge_span.Goals.{After-glyph_rows-own, After-span_at-span}
 
 -- the span's own glyphs are few
-own-rows : (c : After-glyph_rows-own) → OwnFew c.glyph_rows-own.result
-own-rows c =
-    let own = c.glyph_rows-own in
-    let a = c.args in
-    record { few = own-few a.s.now (parts_of (drop a.at a.s.now)) own.result.first own.result.count own.ensures.1 c.requires.1; inside = own.ensures.0 }
+own-rows : (s : List ℕ) (at : ℕ) (own : GlyphRows) → own.first ≤ 2_000_000
+    → records (λ b. glyph_bytes) glyph_of own.count (drop own.first s) ≡ (parts_of (drop at s)).glyphs
+    → FewGlyphs (parts_of (drop at s)) → OwnFew own
+own-rows s at own inside rows few = record { few = own-few s (parts_of (drop at s)) own.first own.count rows few; inside = inside }
 
 -- the span's merge is that of its glyphs into the list, which is not empty
-merged-span : (c : After-span_at-span) (r : Merge) (rows stamps : List ℕ) → (let a = c.args in
-    let gs = glyphs_in a.s.now a.rows.now a.count in
-    let own = c.glyph_rows-own.result in
-    let parts = parts_of (drop a.at a.s.now) in
-    SpanEnded r a.s.now rows a.stamps.now stamps a.stamp (merged_into gs c.span_at-span.result a.s.now own.first own.count)
-    → SpanMerged r a.s.now rows a.stamps.now stamps a.stamp (replaced_places gs parts) (merge_span (given gs) parts))
-merged-span c r rows stamps ended =
-    let some = c.if-count-eq0.false in
-    let own = c.glyph_rows-own in
-    let begun = c.requires.2 in
-    let a = c.args in
-    let bs = drop a.at a.s.now in
-    span_more a.s.now (parts_of bs) own.result.first own.result.count own.ensures.1 a.rows.now a.count (omega (arith, some)) (omega (arith, begun.row_room, begun.few))
-    (SpanMerged r a.s.now rows a.stamps.now stamps a.stamp) (rw (← own-span bs, ← c.span_at-span.ensures) ended)
+merged-span : (s : List ℕ) (at : ℕ) (span : Span) (own : GlyphRows) (rows₀ stamps₀ : List ℕ) (stamp count : ℕ) (r : Merge) (rows stamps : List ℕ)
+    → records (λ b. glyph_bytes) glyph_of own.count (drop own.first s) ≡ (parts_of (drop at s)).glyphs
+    → span ≡ span_of (drop at s) → 0 < count → SpanReady rows₀ stamps₀ stamp count
+    → SpanEnded r s rows stamps₀ stamps stamp (merged_into (glyphs_in s rows₀ count) span s own.first own.count)
+    → (let parts = parts_of (drop at s) in
+    let gs = glyphs_in s rows₀ count in
+    SpanMerged r s rows stamps₀ stamps stamp (replaced_places gs parts) (merge_span (given gs) parts))
+merged-span s at span own rows₀ stamps₀ stamp count r rows stamps whole is some begun ended =
+    let bs = drop at s in
+    span_more s (parts_of bs) own.first own.count whole rows₀ count some (omega (arith, begun.row_room, begun.few))
+    (SpanMerged r s rows stamps₀ stamps stamp) (rw (← own-span bs, ← is) ended)
 
 pub list_span-requires : goal.list_span-requires
 list_span-requires c =
@@ -57,16 +55,24 @@ returns-then-count-eq0 c =
 
 pub merge_glyphs-requires : goal.merge_glyphs-requires
 merge_glyphs-requires c =
-    (c.requires.2, own-rows c, λ b. omega arith)
+    let own = c.glyph_rows-own in
+    let a = c.args in
+    (c.requires.2, own-rows a.s.now a.at own.result own.ensures.0 own.ensures.1 c.requires.1, λ b. omega arith)
 
 pub returns-then-own-count : goal.returns-then-own-count
 returns-then-own-count c =
-    merged-span c _ _ _ c.merge_glyphs.ensures
+    let own = c.glyph_rows-own in
+    let a = c.args in
+    merged-span a.s.now a.at c.span_at-span.result own.result a.rows.now a.stamps.now a.stamp a.count _ _ _ own.ensures.1 c.span_at-span.ensures (omega (arith, c.if-count-eq0.false)) c.requires.2 c.merge_glyphs.ensures
 
 pub merge_many-requires : goal.merge_many-requires
 merge_many-requires c =
-    (c.requires.2, own-rows c)
+    let own = c.glyph_rows-own in
+    let a = c.args in
+    (c.requires.2, own-rows a.s.now a.at own.result own.ensures.0 own.ensures.1 c.requires.1)
 
 pub returns : goal.returns
 returns c =
-    merged-span c _ _ _ c.merge_many.ensures
+    let own = c.glyph_rows-own in
+    let a = c.args in
+    merged-span a.s.now a.at c.span_at-span.result own.result a.rows.now a.stamps.now a.stamp a.count _ _ _ own.ensures.1 c.span_at-span.ensures (omega (arith, c.if-count-eq0.false)) c.requires.2 c.merge_many.ensures

@@ -1,7 +1,7 @@
 use Prim.Native.Nat.{ℕ}
 use lib.ListN.{length-replicate}
 use Rattle.spec.specs.Outcome.{given}
-use Rattle.spec.specs.Merge.{merge_span, merge_glyphs}
+use Rattle.spec.specs.Merge.{merge_glyphs}
 use Rattle.job_rows.specs.Rows.{parts_in}
 use Rattle.merge.specs.Merged.{glyphs_in, merged_of}
 use Rattle.merge.proofs.Stamps.{below-clear, ended-below}
@@ -28,9 +28,9 @@ returns-in-Refused c =
     let l = c.loop-i in
     let s = a.s.now in (
       did.ensures.row_room,
-      rw c.k-1.given.1 at did.ensures.held,
-      spans-stop s a.spans.now l.i (given (glyphs_in s l.rows l.count)) (merge_glyphs (parts_in s a.spans.now)) l.invariant.6 c.k-1.given.0.0 (omega arith)
-          (rw c.k-1.given.1 at did.ensures.is),
+      rw c.in-Refused.is at did.ensures.held,
+      spans-stop s a.spans.now l.i (given (glyphs_in s l.rows l.count)) (merge_glyphs (parts_in s a.spans.now)) l.invariant.6 c.in-Refused.k (omega arith)
+          (rw c.in-Refused.is at did.ensures.is),
     )
 
 pub loop-i-preserved : goal.loop-i-preserved
@@ -42,11 +42,11 @@ loop-i-preserved c =
     let s = a.s.now in (
       did.ensures.row_room,
       did.ensures.stamp-room,
-      ended-below did.ensures c.n-1.given.1 l.invariant.2,
-      rw c.n-1.given.1 at did.ensures.held,
+      ended-below did.ensures c.in-Merged.is l.invariant.2,
+      rw c.in-Merged.is at did.ensures.held,
       omega arith,
       few_on s a.spans.now l.i (omega arith) l.invariant.5,
-      spans_on s a.spans.now l.i (given (glyphs_in s l.rows l.count)) (merge_glyphs (parts_in s a.spans.now)) l.invariant.6 _ (omega arith) (rw c.n-1.given.1 at did.ensures.is),
+      spans_on s a.spans.now l.i (given (glyphs_in s l.rows l.count)) (merge_glyphs (parts_in s a.spans.now)) l.invariant.6 _ (omega arith) (rw c.in-Merged.is at did.ensures.is),
     )
 
 pub returns : goal.returns

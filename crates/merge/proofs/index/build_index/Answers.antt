@@ -7,18 +7,13 @@ use Rattle.merge.specs.Buckets.{buckets_from, buckets_of}
 use Rattle.merge.proofs.Moved.{glyphs-count}
 use Rattle.merge.proofs.Places.{bucket-put}
 use Rattle.merge.proofs.index.build_index.Goals as goal
-use Rattle.merge.proofs.index.build_index.Goals.{Start}
-
--- the list has as many glyphs as are counted
-counted : (c : Start) → length (glyphs_in c.args.s.now c.args.rows.now c.args.count) ≡ c.args.count
-counted c = glyphs-count c.args.s.now c.args.rows.now c.args.count c.requires.0
 
 pub loop-i-init : goal.loop-i-init
 unfolding buckets_from
 loop-i-init c =
     let a = c.args in
     let gs = glyphs_in a.s.now a.rows.now a.count in
-    let all : length gs ≤ a.count = omega (arith, counted c) in
+    let all : length gs ≤ a.count = omega (arith, glyphs-count a.s.now a.rows.now a.count c.requires.0) in
     (omega arith, refl, rw (drop_of_length-le gs all))
 
 pub loop-i-preserved : goal.loop-i-preserved
@@ -28,7 +23,7 @@ loop-i-preserved c =
     let a = c.args in
     let l = c.loop-i in (
       omega arith,
-      put.auto.0 ∙ l.invariant.1,
+      put.auto.buckets ∙ l.invariant.1,
       rw (put.ensures, l.invariant.2) (bucket-put a.s.now a.rows.now a.count l.i read.result _ (omega arith) (omega arith) (omega arith) read.ensures),
     )
 
@@ -36,6 +31,7 @@ pub returns : goal.returns
 unfolding buckets_of
 returns c =
     let filled = c.fill_buckets in
+    let a = c.args in
     let l = c.loop-i in
     let e : l.i ≡ 0 = omega arith in
-    rw (counted c) (rw (e, filled.ensures) at l.invariant.2)
+    rw (glyphs-count a.s.now a.rows.now a.count c.requires.0) (rw (e, filled.ensures) at l.invariant.2)

@@ -4,9 +4,6 @@ use native.Mathlib.Omega.{arith}
 use lib.ListN.{length, get_or-eq_default}
 use Rattle.merge.proofs.index.search_start.Goals as goal
 
-pub overflow_cast-place : goal.overflow_cast-place
-overflow_cast-place c = omega (arith, c.shared_slice_known-1.given (c.args.index / 32))
-
 pub returns-else-b-buckets : goal.returns-else-b-buckets
 returns-else-b-buckets c =
     let a = c.args in

@@ -1,15 +1,8 @@
 -- `merge::step::merge_glyph` meets its contract. Assumes nothing.
-use Prim.Native.Nat.{◌≤◌}
 use mathlib.Core.Path.{sym, ◌∙◌}
-use lib.ListN.{length}
 use Rattle.merge.proofs.Merges.{glyph-owed, glyph-free, outside, stood}
 use native.Mathlib.Omega.{arith}
 use Rattle.merge.proofs.step.merge_glyph.Goals as goal
-use Rattle.merge.proofs.step.merge_glyph.Goals.{Start}
-
--- the list is within its rows
-held : (c : Start) → c.args.at.count ≤ length c.args.rows.now
-held c = omega (arith, c.requires.row_room, c.requires.fits.few)
 
 pub returns-then-at-gt0 : goal.returns-then-at-gt0
 returns-then-at-gt0 c =
@@ -19,7 +12,7 @@ returns-then-at-gt0 c =
       stamp-room = c.requires.stamp-room;
       within = c.insert_next.ensures.1;
       stands = λ stamps₀ positions less known.
-          rw (glyph-owed s a.rows.now a.at a.row positions (held c) a.span (omega arith))
+          rw (glyph-owed s a.rows.now a.at a.row positions (omega (arith, c.requires.row_room, c.requires.fits.few)) a.span (omega arith))
           (stood c.insert_next.result positions known (c.insert_next.ensures.2 s positions));
     }
 
@@ -34,8 +27,8 @@ returns-then-not-covered c =
       within = c.skip.ensures.0;
       stands = λ stamps₀ positions less known.
           rw (
-            glyph-free s a.rows.now a.at a.row positions (held c) a.span (omega arith),
-            outside s a.rows.now a.at a.row positions (held c) a.span index.result index.ensures (sym covered.ensures ∙ c.if-not-covered.true),
+            glyph-free s a.rows.now a.at a.row positions (omega (arith, c.requires.row_room, c.requires.fits.few)) a.span (omega arith),
+            outside s a.rows.now a.at a.row positions (omega (arith, c.requires.row_room, c.requires.fits.few)) a.span index.result index.ensures (sym covered.ensures ∙ c.if-not-covered.true),
           )
           (stood c.skip.result positions known (c.skip.ensures.1 s a.rows.now positions));
     }
@@ -52,6 +45,6 @@ returns c =
       stamp-room = did.stamp-room;
       within = did.within;
       stands = λ stamps₀ positions less known.
-          rw (glyph-free s a.rows.now a.at a.row positions (held c) a.span (omega arith))
+          rw (glyph-free s a.rows.now a.at a.row positions (omega (arith, c.requires.row_room, c.requires.fits.few)) a.span (omega arith))
           (did.stands stamps₀ positions less known);
     }

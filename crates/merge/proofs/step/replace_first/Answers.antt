@@ -1,19 +1,13 @@
 -- `merge::step::replace_first` meets its contract: skipped in two cases, else the place is marked and the glyph takes it. Assumes nothing.
-use Prim.Native.Nat.{◌≤◌}
 use mathlib.Core.Path.{◌∙◌}
 use mathlib.Core.List.{◌∷◌}
-use lib.ListN.{length, length-set}
+use lib.ListN.{length-set}
 use borrow.Author.Tests.{eq-eqb, ne_eqb}
 use Rattle.merge.specs.Steps.{stamped}
 use Rattle.merge.proofs.Stamps.{remembered}
 use Rattle.merge.proofs.Merges.{missing, replaced, replaces, stood}
 use native.Mathlib.Omega.{arith}
 use Rattle.merge.proofs.step.replace_first.Goals as goal
-use Rattle.merge.proofs.step.replace_first.Goals.{Start}
-
--- the list is within its rows
-held : (c : Start) → c.args.at.count ≤ length c.args.rows.now
-held c = omega (arith, c.requires.0.row_room, c.requires.0.fits.few)
 
 pub place_of-p-requires : goal.place_of-p-requires
 place_of-p-requires c =
@@ -30,7 +24,7 @@ returns-then-at-p c =
       stamp-room = c.requires.0.stamp-room;
       within = c.skip.ensures.0;
       stands = λ stamps₀ positions less known.
-          rw (missing s a.rows.now a.at a.row positions (held c) span a.index c.requires.1 (rw c.requires.1 covered) place.result place.ensures (omega arith))
+          rw (missing s a.rows.now a.at a.row positions (omega (arith, c.requires.0.row_room, c.requires.0.fits.few)) span a.index c.requires.1 (rw c.requires.1 covered) place.result place.ensures (omega arith))
           (stood c.skip.result positions known (c.skip.ensures.1 s a.rows.now positions));
     }
 
@@ -44,7 +38,7 @@ returns-then-stamps-p c =
       stamp-room = c.requires.0.stamp-room;
       within = c.skip-then-stamps-p.ensures.0;
       stands = λ stamps₀ positions less known.
-          rw (replaced s a.rows.now a.at a.row positions (held c) span a.index c.requires.1 (rw c.requires.1 covered) place.result place.ensures (omega arith)
+          rw (replaced s a.rows.now a.at a.row positions (omega (arith, c.requires.0.row_room, c.requires.0.fits.few)) span a.index c.requires.1 (rw c.requires.1 covered) place.result place.ensures (omega arith)
           (remembered a.at.stamp stamps₀ less positions known place.result (omega arith) ∙ eq-eqb _ a.at.stamp c.if-stamps-p.true))
           (stood c.skip-then-stamps-p.result positions known (c.skip-then-stamps-p.ensures.1 s a.rows.now positions));
     }
@@ -60,7 +54,7 @@ returns c =
       stamp-room = simp length-set c.requires.0.stamp-room;
       within = c.replace.ensures.1;
       stands = λ stamps₀ positions less known.
-          rw (replaces s a.rows.now a.at a.row positions (held c) span a.index c.requires.1 (rw c.requires.1 covered) place.result place.ensures (omega arith)
+          rw (replaces s a.rows.now a.at a.row positions (omega (arith, c.requires.0.row_room, c.requires.0.fits.few)) span a.index c.requires.1 (rw c.requires.1 covered) place.result place.ensures (omega arith)
           (remembered a.at.stamp stamps₀ less positions known place.result (omega arith) ∙ ne_eqb _ a.at.stamp c.if-stamps-p.false))
           (stood c.replace.result (place.result ∷ positions) (rw known) (c.replace.ensures.2 positions));
     }
