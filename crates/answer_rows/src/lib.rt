@@ -1,5 +1,6 @@
 // An answer's rows as bytes, put into a lent buffer from a place on.
 #![tactic(auto)]
+
 pub mod chunk;
 pub mod cluster;
 pub mod flags;
