@@ -4,6 +4,7 @@
 // place. So the width is the larger of two numbers: what stands at the running place, and the running block's largest. (This is the
 // running maximum of van Herk and of Gil and Werman, in one block.)
 #![tactic(auto)]
+
 mod block;
 mod extent;
 mod refusal;

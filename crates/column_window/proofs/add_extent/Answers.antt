@@ -18,7 +18,7 @@ put_label-requires c =
 pub width_pattern-requires : goal.width_pattern-requires
 width_pattern-requires c =
     let ready = (adds-when c.args.window.now c.args.extent (sym c.add_number-number.ensures ∙ c.if-number-ne0.false)).1 in
-    place-within c.args.window.now c.pattern.result ready c.put_label.ensures c.window-1.given
+    place-within c.args.window.now c.pattern.result ready c.put_label.ensures c.put_label.auto.window
 
 pub returns : goal.returns
 returns c =

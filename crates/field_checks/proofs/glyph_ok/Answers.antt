@@ -1,5 +1,6 @@
 -- `field_checks::glyph_ok` meets its contract. Assumes nothing.
 use mathlib.Core.Path.{refl}
+use native.Mathlib.Omega.{arith}
 use mir.Syntax.{w32}
 use mir.Facts.{to_z-of_z}
 use Rattle.spec.specs.Check.{glyph_ok}
@@ -11,13 +12,12 @@ pub returns : goal.returns
 unfolding glyph_ok every
 returns c =
     let g = c.args.g in
-    let told = c.struct_told-3-1.given.1.1.1 in
     rw (
       c.units_ok.ensures,
       c.units_ok-2.ensures,
       c.units_ok-3.ensures,
-      to_z-of_z {w = w32} {z = g.dx} (record { sfits = told.0.1 }),
-      to_z-of_z {w = w32} {z = g.dy} (record { sfits = told.1.0.1 }),
-      to_z-of_z {w = w32} {z = g.width} (record { sfits = told.1.1.0.1 }),
+      to_z-of_z {w = w32} {z = g.dx} (record { sfits = omega arith }),
+      to_z-of_z {w = w32} {z = g.dy} (record { sfits = omega arith }),
+      to_z-of_z {w = w32} {z = g.width} (record { sfits = omega arith }),
     )
     (simp (and_assoc, and-true) refl)

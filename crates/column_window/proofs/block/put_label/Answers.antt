@@ -33,9 +33,6 @@ bounds-window-3-2 c = simp length-set (omega arith)
 pub slice_bounds-make_tails-end : goal.slice_bounds-make_tails-end
 slice_bounds-make_tails-end c = simp length-set (omega arith)
 
-pub shape_of-window : goal.shape_of-window
-shape_of-window c = c.window-1.given.1 ∙ simp length-set
-
 pub returns : goal.returns
 returns c =
     tails-put c.args.window.now c.args.x (omega arith) c.if-at-span.false c.make_tails.ensures
