@@ -1,6 +1,6 @@
 -- The walk along the sorted keys finds the first cluster of each byte index. Assumes nothing.
 use Prim.Native.Nat.{ℕ, zero, suc, ◌+◌, ◌*◌, ◌/◌, ◌%◌, ◌≤◌, ◌<◌}
-use mathlib.Core.Path.{◌≡◌, refl, sym, ap₂, ◌∙◌}
+use mathlib.Core.Path.{◌≡◌, refl, sym, ap, ap₂, ◌∙◌}
 use mathlib.Core.Bool.{cond}
 use mathlib.Core.List.{List, [], ◌∷◌, map}
 use native.Mathlib.Nat.{zero-add, le_refl}
@@ -99,7 +99,8 @@ first-place b k (i ∷ is) h =
     let r : (i * 65536 + k) % 65536 ≡ k = omega arith in
     let more = first-place b (suc k) is (omega arith) in
     first-insert (k + suc (length is)) b (i * 65536 + k) (all-sorted (later-keys i k (suc k) is (omega arith) (omega arith)))
-    ∙ rw (n, more, q, r)
+    ∙ ap (λ (m : ℕ). first_of m b ((i * 65536 + k) ∷ sorted (map key_of (entries (suc k) is)))) n
+    ∙ rw (more, q, r)
     (same_or_not i b (λ e. rw (eq-eqb i b e) (omega arith)) (λ e. rw (ne_eqb i b e) (omega arith)))
 
 -- ---- what the walk finds

@@ -46,12 +46,12 @@ all_past : (n : ℕ) (keys : List ℕ) → All (λ key. key % 65536 < past n key
 all_past n [] = All.none
 all_past n (key ∷ keys) = let m = max n (key % 65536 + 1) in All.more {x = key} (omega (arith, past-least m keys)) (all_past m keys)
 
-past-most : (n most : ℕ) {keys : List ℕ} → n ≤ most → All (λ key. key % 65536 < most) keys → past n keys ≤ most
-past-most n most h All.none = h
-past-most n most h (All.more {x = key} g gs) = past-most (max n (key % 65536 + 1)) most (omega arith) gs
+past-most : (most n : ℕ) {keys : List ℕ} → n ≤ most → All (λ key. key % 65536 < most) keys → past n keys ≤ most
+past-most most n h All.none = h
+past-most most n h (All.more {x = key} g gs) = past-most most (max n (key % 65536 + 1)) (omega arith) gs
 
 pub range-most : (most : ℕ) {keys : List ℕ} → All (λ key. key % 65536 < most) keys → (places_of keys).to ≤ most
-range-most most l = past-most 0 most (omega arith) l
+range-most most l = past-most most 0 (omega arith) l
 
 -- ---- what a search finds is there, or past the marks
 

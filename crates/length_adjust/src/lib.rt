@@ -1,5 +1,6 @@
 // Step 6: the clusters of a span with a text length are brought to that length, by spacing or by scaling.
 #![tactic(auto)]
+
 pub mod find;
 pub mod glyphs;
 pub mod keys;

@@ -7,7 +7,7 @@ use Rattle.spec.specs.Job.{blank_span, span_at}
 use Rattle.spec.specs.declared.Cluster.{Cluster}
 use Rattle.spec.proofs.Loops.{fold-turn, fold_done}
 use Rattle.spec.specs.LengthAdjust.{adjust_span, apply_length_adjust}
-use Rattle.spec.specs.Looked.{span_looked, spans_looked}
+use Rattle.spec.specs.Looked.{spans_looked}
 use Rattle.cluster_table.specs.Clusters.{clusters_of}
 use Rattle.job_rows.specs.Rows.{spans_in}
 use Rattle.text_order.proofs.Order.{ordered-still}
@@ -33,9 +33,7 @@ adjust_span-one-requires c =
 
 pub overflow_add-looked : goal.overflow_add-looked
 overflow_add-looked c =
-    let adjusted-span : let a = c.args in let l = c.loop-i in let n = length a.marks.now in (adjusted_of c.adjust_span-one.result.adjusted (clusters_of c.adjust_span-one.new.floats c.adjust_span-one.new.words n) ≡ adjust_span (given (clusters_of l.floats l.words n)) (span_at (spans_in a.s.now a.spans.now) l.i)) × (c.adjust_span-one.result.looked ≡ span_looked (given (clusters_of l.floats l.words n)) (span_at (spans_in a.s.now a.spans.now) l.i)) × (c.adjust_span-one.result.looked < 65536) =
-        let l = c.loop-i in
-        rw (l.invariant.0, c.span_in-span.ensures) at c.adjust_span-one.ensures in
+    let adjusted-span = rw (c.loop-i.invariant.0, c.span_in-span.ensures) at c.adjust_span-one.ensures in
     let l = c.loop-i in
     omega (arith, l.invariant.5, adjusted-span.2, c.loop-i-test.true, c.requires.0)
 
@@ -43,17 +41,15 @@ pub returns-in-Refused : goal.returns-in-Refused
 unfolding adjusted_of
 returns-in-Refused c =
     let in-spans : let a = c.args in c.loop-i.i < length (spans_in a.s.now a.spans.now) =
-        let a = c.args in
-        rw (spans-length a.s.now a.spans.now) c.loop-i-test.true in
-    let adjusted-span : let a = c.args in let l = c.loop-i in let n = length a.marks.now in (adjusted_of c.adjust_span-one.result.adjusted (clusters_of c.adjust_span-one.new.floats c.adjust_span-one.new.words n) ≡ adjust_span (given (clusters_of l.floats l.words n)) (span_at (spans_in a.s.now a.spans.now) l.i)) × (c.adjust_span-one.result.looked ≡ span_looked (given (clusters_of l.floats l.words n)) (span_at (spans_in a.s.now a.spans.now) l.i)) × (c.adjust_span-one.result.looked < 65536) =
-        let l = c.loop-i in
-        rw (l.invariant.0, c.span_in-span.ensures) at c.adjust_span-one.ensures in
+    let a = c.args in
+    rw (spans-length a.s.now a.spans.now) c.loop-i-test.true in
+    let adjusted-span = rw (c.loop-i.invariant.0, c.span_in-span.ensures) at c.adjust_span-one.ensures in
     let a = c.args in
     let l = c.loop-i in
-    let number = c.adjusted-1.given.0.0 in
+    let number = c.in-Refused.number in
     let spans = spans_in a.s.now a.spans.now in
     let cs = clusters_of l.floats l.words (length a.marks.now) in
-    let stopped : refused number ≡ adjust_span (given cs) (span_at spans l.i) = rw c.adjusted-1.given.1 at adjusted-span.0 in
+    let stopped : refused number ≡ adjust_span (given cs) (span_at spans l.i) = rw c.in-Refused.is at adjusted-span.0 in
     let then = drop (l.i + 1) spans in
     let none : spans_looked (adjust_span (given cs) (span_at spans l.i)) then ≡ 0 = ap (λ (o : Outcome (List Cluster)). spans_looked o then) (sym stopped) ∙ refused-looks number then in (
       sym (refused-stays number then) ∙ ap (λ (o : Outcome (List Cluster)). foldl adjust_span o then) stopped
@@ -66,22 +62,20 @@ pub loop-i-preserved : goal.loop-i-preserved
 unfolding adjusted_of
 loop-i-preserved c =
     let in-spans : let a = c.args in c.loop-i.i < length (spans_in a.s.now a.spans.now) =
-        let a = c.args in
-        rw (spans-length a.s.now a.spans.now) c.loop-i-test.true in
-    let adjusted-span : let a = c.args in let l = c.loop-i in let n = length a.marks.now in (adjusted_of c.adjust_span-one.result.adjusted (clusters_of c.adjust_span-one.new.floats c.adjust_span-one.new.words n) ≡ adjust_span (given (clusters_of l.floats l.words n)) (span_at (spans_in a.s.now a.spans.now) l.i)) × (c.adjust_span-one.result.looked ≡ span_looked (given (clusters_of l.floats l.words n)) (span_at (spans_in a.s.now a.spans.now) l.i)) × (c.adjust_span-one.result.looked < 65536) =
-        let l = c.loop-i in
-        rw (l.invariant.0, c.span_in-span.ensures) at c.adjust_span-one.ensures in
+    let a = c.args in
+    rw (spans-length a.s.now a.spans.now) c.loop-i-test.true in
+    let adjusted-span = rw (c.loop-i.invariant.0, c.span_in-span.ensures) at c.adjust_span-one.ensures in
     let a = c.args in
     let l = c.loop-i in
     let n = length a.marks.now in
     let spans = spans_in a.s.now a.spans.now in
     let floats = c.adjust_span-one.new.floats in
     let words = c.adjust_span-one.new.words in
-    let marks = c.adjust_span-one.auto.1.1.0 ∙ l.invariant.0 in
-    let rows = c.adjust_span-one.auto.1.1.1.0 ∙ l.invariant.1 in
-    let rows-too = c.adjust_span-one.auto.1.1.1.1.0 ∙ l.invariant.2 in
+    let marks = c.adjust_span-one.auto.marks ∙ l.invariant.0 in
+    let rows = c.adjust_span-one.auto.floats ∙ l.invariant.1 in
+    let rows-too = c.adjust_span-one.auto.words ∙ l.invariant.2 in
     let cs = clusters_of l.floats l.words n in
-    let gave : given (clusters_of floats words n) ≡ adjust_span (given cs) (span_at spans l.i) = rw c.enum_told-1.given.1 at adjusted-span.0 in
+    let gave : given (clusters_of floats words n) ≡ adjust_span (given cs) (span_at spans l.i) = rw c.in_default.is at adjusted-span.0 in
     let same =
     span-order l.floats l.words floats words n (omega (arith, l.invariant.1, c.requires)) (omega (arith, l.invariant.2, c.requires))
     (omega (arith, rows, c.requires)) (omega (arith, rows-too, c.requires)) (span_at spans l.i) gave in (

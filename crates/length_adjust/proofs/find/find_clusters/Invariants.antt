@@ -3,7 +3,7 @@ use Prim.Native.Nat.{◌+◌, ◌/◌, ◌≤◌}
 use mathlib.Core.Path.{◌≡◌}
 use lib.ListN.{length, drop}
 use Rattle.spec.specs.Lists.{All}
-use Rattle.length_adjust.specs.Marks.{mark, below, found, bytes_to}
+use Rattle.length_adjust.specs.Marks.{mark, found, bytes_to}
 use Rattle.length_adjust.proofs.find.find_clusters.Given as goal
 
 -- the keys from k on are not below the next byte; so many bytes are left, and what is found there

@@ -14,10 +14,10 @@ use Rattle.length_adjust.proofs.find.mark_span.Goals as goal
 pub clear-requires : goal.clear-requires
 clear-requires c =
     let range-ends : c.places_of-within.result.to ≤ length c.args.marks.now =
-        let a = c.args in
-        let n = length a.marks.now in
-        rw (c.places_of-within.ensures, c.span_keys-own.ensures)
-        (range-most n (own-all a.span (all-weaken (λ key t. ltb-true (key % 65536) n t) (true-all _ a.keys.now c.requires.1)))) in
+    let a = c.args in
+    let n = length a.marks.now in
+    rw (c.places_of-within.ensures, c.span_keys-own.ensures)
+    (range-most n (own-all a.span (all-weaken (λ key t. ltb-true (key % 65536) n t) (true-all _ a.keys.now c.requires.1)))) in
     range-ends
 
 pub find_clusters-looked-requires : goal.find_clusters-looked-requires
@@ -30,14 +30,14 @@ find_clusters-looked-requires c =
 pub returns : goal.returns
 returns c =
     let range-ends : c.places_of-within.result.to ≤ length c.args.marks.now =
-        let a = c.args in
-        let n = length a.marks.now in
-        rw (c.places_of-within.ensures, c.span_keys-own.ensures)
-        (range-most n (own-all a.span (all-weaken (λ key t. ltb-true (key % 65536) n t) (true-all _ a.keys.now c.requires.1)))) in
+    let a = c.args in
+    let n = length a.marks.now in
+    rw (c.places_of-within.ensures, c.span_keys-own.ensures)
+    (range-most n (own-all a.span (all-weaken (λ key t. ltb-true (key % 65536) n t) (true-all _ a.keys.now c.requires.1)))) in
     let a = c.args in
     let keys = a.keys.now in
     let up = ascends-of-ascending keys c.requires.0 in
-    let same = c.clear.auto.0 in
+    let same = c.clear.auto.marks in
     let ms = c.clear.new.marks in
     let found-there = rw c.span_keys-own.ensures at c.find_clusters-looked.ensures in
     let marked-there = search-marked a.span up ms c.places_of-within.result (rw c.span_keys-own.ensures at c.places_of-within.ensures) (rw same range-ends) c.clear.ensures in

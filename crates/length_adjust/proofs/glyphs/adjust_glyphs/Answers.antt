@@ -25,8 +25,8 @@ pub returns-then-factor : goal.returns-then-factor
 unfolding adjusted_of
 returns-then-factor c =
     let widths : let a = c.args in c.taken-widths.result ≡ record { sum = sum_at rounded width_of (clusters_of a.floats.now a.words.now (length a.marks.now)) (marked_in a.within a.marks.now); count = length (marked_in a.within a.marks.now) } =
-        let a = c.args in
-        c.taken-widths.ensures ∙ widths-taken a.span _ c.requires.0 (marked_in a.within a.marks.now) in
+    let a = c.args in
+    c.taken-widths.ensures ∙ widths-taken a.span _ c.requires.0 (marked_in a.within a.marks.now) in
     let a = c.args in
     sym (glyphs-skipped a.span _ (marked_in a.within a.marks.now) (rw c.taken-widths.ensures at c.if-widths-eq0.false) (sym c.all_zero-flat.ensures ∙ c.if-flat.false)
     (rw widths at c.if-factor.true))
@@ -35,8 +35,8 @@ pub returns : goal.returns
 unfolding adjusted_of
 returns c =
     let widths : let a = c.args in c.taken-widths.result ≡ record { sum = sum_at rounded width_of (clusters_of a.floats.now a.words.now (length a.marks.now)) (marked_in a.within a.marks.now); count = length (marked_in a.within a.marks.now) } =
-        let a = c.args in
-        c.taken-widths.ensures ∙ widths-taken a.span _ c.requires.0 (marked_in a.within a.marks.now) in
+    let a = c.args in
+    c.taken-widths.ensures ∙ widths-taken a.span _ c.requires.0 (marked_in a.within a.marks.now) in
     let a = c.args in
     rw (c.scale.ensures, widths)
     (sym (glyphs-scaled a.span _ (marked_in a.within a.marks.now) (rw c.taken-widths.ensures at c.if-widths-eq0.false) (sym c.all_zero-flat.ensures ∙ c.if-flat.false)

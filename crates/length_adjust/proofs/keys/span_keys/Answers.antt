@@ -14,29 +14,29 @@ use Rattle.length_adjust.proofs.keys.span_keys.Goals as goal
 pub offset_bounds-keys-start : goal.offset_bounds-keys-start
 offset_bounds-keys-start c =
     let most : c.first_key-start.result ≤ length c.args.keys.now =
-        let a = c.args in
-        rw c.first_key-start.ensures (below-most a.span.start a.keys.now) in
+    let a = c.args in
+    rw c.first_key-start.ensures (below-most a.span.start a.keys.now) in
     omega (arith, most)
 
 pub slice_bounds-rest-count : goal.slice_bounds-rest-count
 slice_bounds-rest-count c =
     let most : c.first_key-start.result ≤ length c.args.keys.now =
-        let a = c.args in
-        rw c.first_key-start.ensures (below-most a.span.start a.keys.now) in
+    let a = c.args in
+    rw c.first_key-start.ensures (below-most a.span.start a.keys.now) in
     omega (arith, most)
 
 pub slice_bounds-rest-start : goal.slice_bounds-rest-start
 slice_bounds-rest-start c =
     let most : c.first_key-start.result ≤ length c.args.keys.now =
-        let a = c.args in
-        rw c.first_key-start.ensures (below-most a.span.start a.keys.now) in
+    let a = c.args in
+    rw c.first_key-start.ensures (below-most a.span.start a.keys.now) in
     omega (arith, most)
 
 pub first_key-end-requires : goal.first_key-end-requires
 first_key-end-requires c =
     let rest-is : let a = c.args in let first = c.first_key-start.result in take (length a.keys.now - first) (drop first a.keys.now) ≡ drop (below a.span.start a.keys.now) a.keys.now =
-        let a = c.args in
-        take_rest c.first_key-start.result a.keys.now ∙ ap (λ (k : ℕ). drop k a.keys.now) c.first_key-start.ensures in
+    let a = c.args in
+    take_rest c.first_key-start.result a.keys.now ∙ ap (λ (k : ℕ). drop k a.keys.now) c.first_key-start.ensures in
     let a = c.args in
     ap ascending rest-is ∙ ascending-of-ascends (drop-ascends (below a.span.start a.keys.now) (ascends-of-ascending a.keys.now c.requires))
 
@@ -49,7 +49,7 @@ slice_bounds-result-end c =
 pub returns : goal.returns
 returns c =
     let rest-is : let a = c.args in let first = c.first_key-start.result in take (length a.keys.now - first) (drop first a.keys.now) ≡ drop (below a.span.start a.keys.now) a.keys.now =
-        let a = c.args in
-        take_rest c.first_key-start.result a.keys.now ∙ ap (λ (k : ℕ). drop k a.keys.now) c.first_key-start.ensures in
+    let a = c.args in
+    take_rest c.first_key-start.result a.keys.now ∙ ap (λ (k : ℕ). drop k a.keys.now) c.first_key-start.ensures in
     let a = c.args in
     rw (c.first_key-end.ensures, rest-is)

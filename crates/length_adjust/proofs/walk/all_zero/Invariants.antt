@@ -18,7 +18,7 @@ zero-width floats words n k = is_zero (get_map_or +0 width_of (clusters_of float
 
 abbrev pub invariant-loop-i : goal.invariant-loop-i
 invariant-loop-i l =
-    walked (and_at (zero-width l.floats l.words (length l.marks))) true l.marks l.to l.i ≡ all (zero-width l.floats l.words (length l.marks)) (marked_in (record { from = l.initial.i; l.to = l.to }) l.marks)
+    walked (and_at (zero-width l.floats l.words (length l.marks))) true l.marks l.to l.i ≡ all (zero-width l.floats l.words (length l.marks)) (marked_in (record { from = l.initial.i; to = l.to }) l.marks)
 
 abbrev pub decreases-loop-i : goal.decreases-loop-i
 decreases-loop-i l = l.to - l.i

@@ -1,4 +1,3 @@
-use mathlib.Core.Logic.{⊎_elim}
 use mathlib.Core.Path.{◌≡◌, sym, ap, ◌∙◌}
 use lib.ListN.{length}
 use Rattle.spec.specs.Lists.{modify}
@@ -8,6 +7,7 @@ use Rattle.cluster_table.proofs.LoopSteps.{cluster-modify}
 use Rattle.length_adjust.proofs.Walks.{walk-on, walk-past, walk-done}
 use native.Mathlib.Omega.{arith}
 use Rattle.length_adjust.proofs.walk.scale.Goals as goal
+use Rattle.length_adjust.proofs.walk.scale.Goals.{then-marks-i-eq1, else-marks-i-eq1}
 
 pub loop-i-preserved : goal.loop-i-preserved
 loop-i-preserved c =
@@ -18,21 +18,21 @@ loop-i-preserved c =
     let now = clusters_of l.floats l.words n in
     let then = clusters_of c.if-marks-i-eq1.floats c.if-marks-i-eq1.words n in
     let h = c.loop-i-test.true in
-    ⊎_elim
-    (λ w.
-    let set_there : then ≡ step now l.i =
-    cluster-modify l.floats l.words n l.i w.3.result w.3.ensures (omega arith) (omega arith) (omega arith) (with_scale a.factor) w.6.result
-    w.6.ensures (w.10 ∙ w.7.ensures.0) (w.11 ∙ w.7.ensures.1) in (
-      ap {B = _} length w.10 ∙ w.7.kept.0 ∙ l.invariant.0,
-      ap {B = _} length w.11 ∙ w.7.kept.1.0 ∙ l.invariant.1,
-      walk-on step now then a.marks.now a.within.to l.i h (omega arith) w.0.taken set_there ∙ l.invariant.2,
-    ))
-    (λ w. (
-      ap {B = _} length w.1 ∙ l.invariant.0,
-      ap {B = _} length w.2 ∙ l.invariant.1,
-      walk-past step now then a.marks.now a.within.to l.i h (omega arith) w.0.left (rw (w.1, w.2)) ∙ l.invariant.2,
-    ))
-    c.if-marks-i-eq1.branch
+    elim c.if-marks-i-eq1.branch [
+      | then-marks-i-eq1 w ↦
+          let set_there : then ≡ step now l.i =
+          cluster-modify l.floats l.words n l.i w.cluster_at-c.result w.cluster_at-c.ensures (omega arith) (omega arith) (omega arith) (with_scale a.factor) w.with_scale.result
+          w.with_scale.ensures (w.floats-is ∙ w.put_cluster.ensures.0) (w.words-is ∙ w.put_cluster.ensures.1) in (
+            ap {B = _} length w.floats-is ∙ w.put_cluster.auto.floats ∙ l.invariant.0,
+            ap {B = _} length w.words-is ∙ w.put_cluster.auto.words ∙ l.invariant.1,
+            walk-on step now then a.marks.now a.within.to l.i h (omega arith) w.if-marks-i-eq1.true set_there ∙ l.invariant.2,
+          )
+      | else-marks-i-eq1 w ↦ (
+        ap {B = _} length w.floats-is ∙ l.invariant.0,
+        ap {B = _} length w.words-is ∙ l.invariant.1,
+        walk-past step now then a.marks.now a.within.to l.i h (omega arith) w.if-marks-i-eq1.false (rw (w.floats-is, w.words-is)) ∙ l.invariant.2,
+      )
+    ]
 
 pub returns : goal.returns
 returns c =

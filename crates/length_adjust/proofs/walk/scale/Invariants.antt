@@ -14,7 +14,7 @@ abbrev pub invariant-loop-i : goal.invariant-loop-i
 invariant-loop-i l =
     (length l.floats ≡ length l.initial.floats) × (length l.words ≡ length l.initial.words)
     × (walked (modify (with_scale l.factor)) (clusters_of l.floats l.words (length l.marks)) l.marks l.to l.i
-    ≡ foldl (modify (with_scale l.factor)) (clusters_of l.initial.floats l.initial.words (length l.marks)) (marked_in (record { from = l.initial.i; l.to = l.to }) l.marks))
+    ≡ foldl (modify (with_scale l.factor)) (clusters_of l.initial.floats l.initial.words (length l.marks)) (marked_in (record { from = l.initial.i; to = l.to }) l.marks))
 
 abbrev pub decreases-loop-i : goal.decreases-loop-i
 decreases-loop-i l = l.to - l.i

@@ -1,4 +1,3 @@
-use mathlib.Core.Logic.{⊎_elim}
 use mathlib.Core.Path.{◌≡◌, sym, ap, ◌∙◌}
 use mathlib.Core.List.{[]}
 use lib.ListN.{length, get_or}
@@ -12,6 +11,7 @@ use Rattle.cluster_table.proofs.LoopSteps.{floats-modify}
 use Rattle.length_adjust.proofs.Walks.{walk-on, walk-past, walk-done}
 use native.Mathlib.Omega.{arith}
 use Rattle.length_adjust.proofs.walk.stretch.Goals as goal
+use Rattle.length_adjust.proofs.walk.stretch.Goals.{then-marks-i-eq1, else-marks-i-eq1}
 
 pub loop-i-preserved : goal.loop-i-preserved
 loop-i-preserved c =
@@ -22,17 +22,17 @@ loop-i-preserved c =
     let now = clusters_of l.floats a.words.now n in
     let then = clusters_of c.if-marks-i-eq1.floats a.words.now n in
     let h = c.loop-i-test.true in
-    ⊎_elim
-    (λ w.
-    let row = w.2.result in
-    let same = line-back row.width (taken_of rounded a.span row +ᶠ a.factor) a.factor row.x row.y (get_or l.floats l.i []) (get_or a.words.now l.i []) w.2.ensures in
-    let set_there : then ≡ step now l.i =
-    floats-modify l.floats a.words.now n l.i row w.2.ensures (omega arith) (omega arith) (omega arith) (stretched_by rounded a.span a.factor) w.4.result
-    w.4.ensures (w.7 ∙ w.5.ensures) (rw w.4.ensures same) in
-    (ap {B = _} length w.7 ∙ w.5.kept.0 ∙ l.invariant.0, walk-on step now then a.marks.now a.within.to l.i h (omega arith) w.0.taken set_there ∙ l.invariant.1))
-    (λ w.
-    (ap {B = _} length w.1 ∙ l.invariant.0, walk-past step now then a.marks.now a.within.to l.i h (omega arith) w.0.left (rw w.1) ∙ l.invariant.1))
-    c.if-marks-i-eq1.branch
+    elim c.if-marks-i-eq1.branch [
+      | then-marks-i-eq1 w ↦
+          let row = w.cluster_at-c.result in
+          let same = line-back row.width (taken_of rounded a.span row +ᶠ a.factor) a.factor row.x row.y (get_or l.floats l.i []) (get_or a.words.now l.i []) w.cluster_at-c.ensures in
+          let set_there : then ≡ step now l.i =
+          floats-modify l.floats a.words.now n l.i row w.cluster_at-c.ensures (omega arith) (omega arith) (omega arith) (stretched_by rounded a.span a.factor) w.stretched_by.result
+          w.stretched_by.ensures (w.floats-is ∙ w.put_floats.ensures) (rw w.stretched_by.ensures same) in
+          (ap {B = _} length w.floats-is ∙ w.put_floats.auto.floats ∙ l.invariant.0, walk-on step now then a.marks.now a.within.to l.i h (omega arith) w.if-marks-i-eq1.true set_there ∙ l.invariant.1)
+      | else-marks-i-eq1 w ↦
+          (ap {B = _} length w.floats-is ∙ l.invariant.0, walk-past step now then a.marks.now a.within.to l.i h (omega arith) w.if-marks-i-eq1.false (rw w.floats-is) ∙ l.invariant.1)
+    ]
 
 pub returns : goal.returns
 returns c =

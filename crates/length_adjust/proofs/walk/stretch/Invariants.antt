@@ -15,7 +15,7 @@ abbrev pub invariant-loop-i : goal.invariant-loop-i
 invariant-loop-i l =
     (length l.floats ≡ length l.initial.floats)
     × (walked (modify (stretched_by rounded l.span l.factor)) (clusters_of l.floats l.words (length l.marks)) l.marks l.to l.i
-    ≡ foldl (modify (stretched_by rounded l.span l.factor)) (clusters_of l.initial.floats l.words (length l.marks)) (marked_in (record { from = l.initial.i; l.to = l.to }) l.marks))
+    ≡ foldl (modify (stretched_by rounded l.span l.factor)) (clusters_of l.initial.floats l.words (length l.marks)) (marked_in (record { from = l.initial.i; to = l.to }) l.marks))
 
 abbrev pub decreases-loop-i : goal.decreases-loop-i
 decreases-loop-i l = l.to - l.i

@@ -19,8 +19,8 @@ add-taken span floats words n w k = w +ᶠ get_map_or +0 (taken_of rounded span)
 
 abbrev pub invariant-loop-i : goal.invariant-loop-i
 invariant-loop-i l =
-    (l.count ≤ l.i) × (walked (add-taken l.span l.floats l.words (length l.marks)) l.sum l.marks l.to l.i ≡ sum_at rounded (taken_of rounded l.span) (clusters_of l.floats l.words (length l.marks)) (marked_in (record { from = l.initial.i; l.to = l.to }) l.marks))
-    × (walked one_more l.count l.marks l.to l.i ≡ length (marked_in (record { from = l.initial.i; l.to = l.to }) l.marks))
+    (l.count ≤ l.i) × (walked (add-taken l.span l.floats l.words (length l.marks)) l.sum l.marks l.to l.i ≡ sum_at rounded (taken_of rounded l.span) (clusters_of l.floats l.words (length l.marks)) (marked_in (record { from = l.initial.i; to = l.to }) l.marks))
+    × (walked one_more l.count l.marks l.to l.i ≡ length (marked_in (record { from = l.initial.i; to = l.to }) l.marks))
 
 abbrev pub decreases-loop-i : goal.decreases-loop-i
 decreases-loop-i l = l.to - l.i
