@@ -354,7 +354,7 @@ span-indexes : spans_in (λ (s : SpanRow). s.index) five_letters ≡ 1 ∷ 2 ∷
 unfolding computed built seen five_letters
 span-indexes = refl
 
-runs : spans_in runs_of five_letters ≡ ((0, 0x41a00000) ∷ (2, 0x41200000) ∷ (4, 0x41200000) ∷ []) ∷ ((3, 0x41200000) ∷ []) ∷ []
+runs : spans_in runs_of five_letters ≡ ((0, whole 20) ∷ (2, whole 10) ∷ (4, whole 10) ∷ []) ∷ ((3, whole 10) ∷ []) ∷ []
 unfolding computed built seen five_letters
 runs = refl
 
