@@ -8,10 +8,9 @@ use lib.Ieee.{Float, binary32, of_bits}
 use Rattle.spec.specs.Outcome.{Outcome, refused, given}
 use Rattle.spec.specs.Bytes.{bytes}
 use Rattle.spec.specs.Script.Tag.{tag}
-use Rattle.spec.specs.Job.{Job, Chunk, SpanParts, Span, Glyph, Font, Shift}
+use Rattle.spec.specs.Job.{Job, Chunk, Span, Glyph, Font}
 use Rattle.spec.specs.Check.{checked}
-use Rattle.spec.specs.Decoration.{Run}
-use Rattle.spec.specs.Answer.{GlyphRow, ClusterRow, SpanRow, ChunkRow, answer_bytes, read_answer}
+use Rattle.spec.specs.Answer.{ChunkRow, answer_bytes, read_answer}
 use Rattle.spec.specs.Layout.{number_of, length_of, buffer_after}
 use Rattle.spec.proofs.Compute.{computed}
 

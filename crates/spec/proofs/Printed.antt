@@ -9,7 +9,7 @@ use Rattle.spec.specs.Script.Tag.{tag}
 use Rattle.spec.specs.TextForm.{ascii, platelist}
 use Rattle.spec.proofs.Compute.{computed}
 use Rattle.spec.proofs.Seen.{shown}
-use Rattle.spec.proofs.Jobs.{Variant, label_job, plain_variant, chunk_row, plain_job, built}
+use Rattle.spec.proofs.Jobs.{label_job, plain_variant, chunk_row, plain_job, built}
 use Rattle.spec.proofs.Label.{Case, table}
 
 -- lines as bytes, each with its end

@@ -1,7 +1,7 @@
 -- The rounded clusters: what the steps read and set of them. And step 2, which makes them. Definitions only.
 pub use Rattle.spec.specs.declared.Cluster.{Cluster}
 use Rattle.spec.specs.ClusterParts.{with_line, collapsed}
-use Rattle.std.specs.Prelude.{ℕ, false, not, List, length, eqb, Float}
+use Rattle.std.specs.Prelude.{false, not, List, length, eqb, Float}
 use Rattle.std.specs.Float.{binary32}
 use Rattle.std.specs.Float.Ieee.{neg, lt, of_int}
 use Rattle.spec.specs.Single.{◌+ᶠ◌, ◌-ᶠ◌, ◌*ᶠ◌, ◌/ᶠ◌, +0, two, of_nat, is_positive}

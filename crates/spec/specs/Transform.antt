@@ -1,8 +1,7 @@
 -- What a host does with an answer's rows: the transforms that document 01 says of them, as steps. They are composed from the identity in this order.
 -- Definitions only.
-use Rattle.std.specs.Prelude.{ℕ, ◌/◌, ◌%◌, Bool, cond, List, [], ◌∷◌, ◌++◌, eqb, Float, pos}
-use Rattle.std.specs.Float.{binary32}
-use Rattle.std.specs.Float.Ieee.{neg, of_int}
+use Rattle.std.specs.Prelude.{ℕ, ◌/◌, ◌%◌, Bool, cond, List, [], ◌∷◌, ◌++◌, eqb, Float}
+use Rattle.std.specs.Float.Ieee.{neg}
 use Rattle.spec.specs.Single.{+0, of_nat}
 use Rattle.spec.specs.Job.{top_to_bottom}
 use Rattle.spec.specs.Answer.{ClusterRow, SpanRow}

@@ -3,7 +3,6 @@ use Prim.Native.Nat.{ℕ}
 use mathlib.Core.Path.{◌≡◌, sym, ap, ◌∙◌, subst}
 use mathlib.Core.Bool.{Bool, true, false}
 use mathlib.Core.List.{List}
-use lib.ListN.{length}
 use lib.Dec.{T, eqb→eq}
 use lib.Ieee.{Float, binary32, fits, of_bits, eq}
 use lib.Ieee.Bits.{of_bits-fits, of_bits-to_bits}

@@ -1,12 +1,12 @@
 -- Steps 2 to 6 move no cluster: behind them none has a shift, an angle or a mark. Assumes nothing.
 use Prim.Native.Nat.{ℕ}
 use mathlib.Core.Path.{◌≡◌, refl}
-use mathlib.Core.Bool.{false, not}
+use mathlib.Core.Bool.{not}
 use mathlib.Core.List.{List, [], ◌∷◌, map, foldl}
 use lib.ListN.{length}
 use lib.Dec.{eqb}
 use lib.Ieee.{Float, lt}
-use Rattle.spec_laws.specs.Unmoved.{ShiftedBy, Unmoved}
+use Rattle.spec_laws.specs.Unmoved.{Unmoved}
 use Rattle.spec_laws.proofs.All.{all_map, all-scan, all-modify, fold-keeps, cond-keeps}
 use Rattle.spec_laws.proofs.IfGiven.{of-given}
 use Rattle.spec.specs.Outcome.{Outcome, refused, given, IfGiven}

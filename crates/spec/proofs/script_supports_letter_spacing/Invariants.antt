@@ -5,7 +5,6 @@ use mathlib.Core.Path.{◌≡◌}
 use lib.ListN.{length, drop}
 use Rattle.spec.specs.Lists.{elem}
 use Rattle.spec.specs.Script.{unspaced}
-use Rattle.spec.specs.Script.Tag.{tag}
 use Rattle.spec.proofs.script_supports_letter_spacing.Given as goal
 
 abbrev pub invariant-loop-i : goal.invariant-loop-i
