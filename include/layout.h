@@ -4,7 +4,7 @@
  *
  * One call reads a job (fonts, text, spans, shaped glyphs) and writes an answer (clusters with their places, decoration runs) into a
  * buffer that the caller lends. It allocates nothing and keeps nothing from one call to the next, so threads may call it at once.
- * Link with liblayout_c.a, which `rt staticlib layout_c` writes to target/staticlib.
+ * Link with liblayout_c.a, which `rt lib` in crates/layout_c writes to crates/layout_c/out.
  *
  * Numbers are big-endian. A float is the 4 bytes of an IEEE 754 binary32, a u16 2 bytes, a u32 4 bytes.
  */

@@ -5,7 +5,7 @@ use std::path::{Path, PathBuf};
 use std::process::Command;
 
 const ARCHIVE: &str = "LAYOUT_ARCHIVE";
-const DEFAULT_ARCHIVE: &str = "../../target/staticlib/liblayout_c.a";
+const DEFAULT_ARCHIVE: &str = "../../crates/layout_c/out/liblayout_c.a";
 
 fn main() {
     let here = PathBuf::from(env::var_os("CARGO_MANIFEST_DIR").unwrap());

@@ -4,7 +4,7 @@ use std::env;
 use std::path::{Path, PathBuf};
 
 const ARCHIVE: &str = "LAYOUT_ARCHIVE";
-const DEFAULT_ARCHIVE: &str = "../../target/staticlib/liblayout_c.a";
+const DEFAULT_ARCHIVE: &str = "../../crates/layout_c/out/liblayout_c.a";
 
 fn main() {
     println!("cargo:rerun-if-env-changed={ARCHIVE}");

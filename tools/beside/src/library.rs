@@ -37,6 +37,6 @@ pub fn call(job: &[u8], answer: &mut [u8]) -> Returned {
 
 #[cfg(not(library))]
 pub fn call(_job: &[u8], _answer: &mut [u8]) -> Returned {
-    eprintln!("built without the library: run `rt staticlib layout_c`, or set LAYOUT_ARCHIVE, and build again");
+    eprintln!("built without the library: run `rt lib` in crates/layout_c, or set LAYOUT_ARCHIVE, and build again");
     std::process::exit(2);
 }

@@ -52,6 +52,6 @@ pub fn add(_window: &mut [u32], _extent: f32) -> Width {
 
 #[cfg(not(library))]
 fn missing() -> ! {
-    eprintln!("built without the library: run `rt staticlib layout_c`, or set LAYOUT_ARCHIVE, and build again");
+    eprintln!("built without the library: run `rt lib` in crates/layout_c, or set LAYOUT_ARCHIVE, and build again");
     std::process::exit(2);
 }

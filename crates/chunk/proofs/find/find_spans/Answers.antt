@@ -11,25 +11,25 @@ use Rattle.chunk.proofs.find.find_spans.Goals as goal
 pub slice_bounds-span_places-end : goal.slice_bounds-span_places-end
 slice_bounds-span_places-end c =
     let few : c.span_count-n.result ≤ limits.spans =
-        few-spans c.requires.0 c.tail-chunk.ensures c.span_count-n.ensures.0 in
+    few-spans c.requires.0 c.tail-chunk.ensures c.span_count-n.ensures.0 in
     let held : c.span_count-n.result ≤ length c.args.places.now =
-        omega (arith, few, c.requires.1) in
+    omega (arith, few, c.requires.1) in
     held
 
 pub slice_bounds-span_places-end-2 : goal.slice_bounds-span_places-end-2
 slice_bounds-span_places-end-2 c =
     let few : c.span_count-n.result ≤ limits.spans =
-        few-spans c.requires.0 c.tail-chunk.ensures c.span_count-n.ensures.0 in
+    few-spans c.requires.0 c.tail-chunk.ensures c.span_count-n.ensures.0 in
     let held : c.span_count-n.result ≤ length c.args.places.now =
-        omega (arith, few, c.requires.1) in
+    omega (arith, few, c.requires.1) in
     lent_length _ held
 
 pub returns : goal.returns
 returns c =
     let few : c.span_count-n.result ≤ limits.spans =
-        few-spans c.requires.0 c.tail-chunk.ensures c.span_count-n.ensures.0 in
+    few-spans c.requires.0 c.tail-chunk.ensures c.span_count-n.ensures.0 in
     let held : c.span_count-n.result ≤ length c.args.places.now =
-        omega (arith, few, c.requires.1) in
+    omega (arith, few, c.requires.1) in
     let places = c.args.places.now in
     let all = held in
     let same = ap length c.span_places.ensures ∙ length-places _ _ _ in

@@ -10,8 +10,8 @@ apply_length_adjust-lengths-requires c =
     let given = c.requires in (
       given.few,
       record {
-        ordered = ordered-sorted given.sortable c.logical_order.auto.1.1.0 c.logical_order.ensures;
-        marked = omega (arith, c.logical_order.auto.1.1.1.0, given.spared);
+        ordered = ordered-sorted given.sortable c.logical_order.auto.order c.logical_order.ensures;
+        marked = omega arith;
         rows = given.rows;
       },
     )

@@ -1,4 +1,4 @@
--- `chunk::place::place_clusters` meets its contract: in a job the clusters are and placed, and the laws say that this is step 7, and that
+-- `chunk::place::place_clusters` meets its contract: in a still job the clusters are turned and placed, and the laws say that this is step 7, and that
 -- any cluster has the shift of the first and the last; else they are put in text order, their characters are numbered, and all of it is done.
 -- Assumes nothing.
 use Prim.Native.Nat.{ℕ}
@@ -17,30 +17,30 @@ use Rattle.chunk.proofs.place.place_clusters.Goals as goal
 pub positioned_between-requires : goal.positioned_between-requires
 positioned_between-requires c =
     let given = c.requires in
-    still-ended _ given.unmoved c.rotate_shifts.ensures given.some (omega (arith, c.rotate_shifts.kept.1.0, given.rows)) given.sortable.rows c.cluster_at-any.result
+    still-ended _ given.unmoved c.rotate_shifts.ensures given.some (omega arith) given.sortable.rows c.cluster_at-any.result
     c.cluster_at-any.ensures
 
 pub returns-then-is_still : goal.returns-then-is_still
 returns-then-is_still c =
     let a = c.args in
-    still_placed a.s.now a.next c.is_still.ensures c.if-is_still.taken c.requires.unmoved c.anchor_at-anchor.ensures c.rotate_shifts.ensures c.positioned_between.ensures
+    still_placed a.s.now a.next c.is_still.ensures c.if-is_still.true c.requires.unmoved c.anchor_at-anchor.ensures c.rotate_shifts.ensures c.positioned_between.ensures
 
 pub character_numbers-requires : goal.character_numbers-requires
 character_numbers-requires c =
     let in_order : let a = c.args in Ordered c.logical_order.new.order a.words.now a.n =
-        ordered-sorted c.requires.sortable c.logical_order.auto.1.1.0 c.logical_order.ensures in
+    ordered-sorted c.requires.sortable c.logical_order.auto.order c.logical_order.ensures in
     let given = c.requires in
-    (given.short, omega (arith, c.logical_order.auto.1.1.1.0, given.spared), in_order)
+    (given.short, omega arith, in_order)
 
 pub resolve_clusters_positions_horizontal-requires : goal.resolve_clusters_positions_horizontal-requires
 resolve_clusters_positions_horizontal-requires c =
     let in_order : let a = c.args in Ordered c.logical_order.new.order a.words.now a.n =
-        ordered-sorted c.requires.sortable c.logical_order.auto.1.1.0 c.logical_order.ensures in
+    ordered-sorted c.requires.sortable c.logical_order.auto.order c.logical_order.ensures in
     let given = c.requires in (
       record {
         some = given.some;
         rows = given.rows;
-        numbered = omega (arith, c.character_numbers.auto.1.1.1.1.1.0, c.logical_order.kept.1.1.1.0, given.spared);
+        numbered = omega arith;
       },
       in_order,
     )

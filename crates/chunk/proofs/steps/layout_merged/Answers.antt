@@ -63,8 +63,8 @@ returns-in-Refused c =
     let text = c.text_of-text.ensures ∙ ap (λ (bs : List ℕ). (chunk_of bs).text) c.tail-chunk.ensures in
     let told =
     c.adjust_lengths-adjusted.ensures
-        ∙ adjusted-is a.merged.now c.requires.0.spanned text c.form_clusters-n.ensures.clusters c.apply_writing_mode.ensures
-        c.apply_letter_spacing.ensures c.apply_word_spacing.ensures in
+    ∙ adjusted-is a.merged.now c.requires.0.spanned text c.form_clusters-n.ensures.clusters c.apply_writing_mode.ensures
+    c.apply_letter_spacing.ensures c.apply_word_spacing.ensures in
     refused-merged a.s.now a.next a.merged.now (told-refused _ _ told c.in-Refused.is)
 
 -- ---- a chunk that has no cluster
@@ -83,8 +83,8 @@ returns-then-n-eq0 c =
     let text = c.text_of-text.ensures ∙ ap (λ (bs : List ℕ). (chunk_of bs).text) c.tail-chunk.ensures in
     let told =
     c.adjust_lengths-adjusted.ensures
-        ∙ adjusted-is a.merged.now c.requires.0.spanned text c.form_clusters-n.ensures.clusters c.apply_writing_mode.ensures
-        c.apply_letter_spacing.ensures c.apply_word_spacing.ensures in
+    ∙ adjusted-is a.merged.now c.requires.0.spanned text c.form_clusters-n.ensures.clusters c.apply_writing_mode.ensures
+    c.apply_letter_spacing.ensures c.apply_word_spacing.ensures in
     let none = done-given _ _ told c.in-Done.is ∙ ap given (none_of _ _ _ c.if-n-eq0.true) in
     one-laid a.s.now a.next a.merged.now (empty-row a.s.now a.next a.merged.now) none refl text c.write_empty_row-row.ensures c.progress_behind.ensures
 
@@ -99,8 +99,8 @@ place_clusters-placed-requires c =
     let short : length c.text_of-text.result.now ≤ 4096 = rw text (few_bytes checked) in
     let told =
     c.adjust_lengths-adjusted.ensures
-        ∙ adjusted-is a.merged.now c.requires.0.spanned text form.clusters c.apply_writing_mode.ensures
-        c.apply_letter_spacing.ensures c.apply_word_spacing.ensures in
+    ∙ adjusted-is a.merged.now c.requires.0.spanned text form.clusters c.apply_writing_mode.ensures
+    c.apply_letter_spacing.ensures c.apply_word_spacing.ensures in
     let indexes =
     letter-rows _ _ _ _ _ _ (omega arith) (omega arith) (omega arith) (omega arith) c.apply_letter_spacing.ensures in
     let before : Sortable a.order.now c.apply_letter_spacing.new.words c.form_clusters-n.result =
@@ -113,7 +113,7 @@ place_clusters-placed-requires c =
       rows = omega arith;
       spared = omega arith;
       sortable = sortable-still _ before c.adjust_lengths-adjusted.auto.order rows
-      (done-kept _ _ _ _ _ (omega arith) before.rows (omega arith) rows _ _ c.in-Done.is c.adjust_lengths-adjusted.ensures);
+          (done-kept _ _ _ _ _ (omega arith) before.rows (omega arith) rows _ _ c.in-Done.is c.adjust_lengths-adjusted.ensures);
       unmoved = adjusted-unmoved _ _ _ _ (done-given _ _ told c.in-Done.is);
     }
 
@@ -150,12 +150,12 @@ write_chunk_row-row-requires c =
     let text = c.text_of-text.ensures ∙ ap (λ (bs : List ℕ). (chunk_of bs).text) c.tail-chunk.ensures in
     let told =
     c.adjust_lengths-adjusted.ensures
-        ∙ adjusted-is a.merged.now m.spanned text c.form_clusters-n.ensures.clusters c.apply_writing_mode.ensures
-        c.apply_letter_spacing.ensures c.apply_word_spacing.ensures in
+    ∙ adjusted-is a.merged.now m.spanned text c.form_clusters-n.ensures.clusters c.apply_writing_mode.ensures
+    c.apply_letter_spacing.ensures c.apply_word_spacing.ensures in
     let many = clusters-length c.adjust_lengths-adjusted.new.floats c.adjust_lengths-adjusted.new.words n (omega arith) (omega arith) in
     let one =
     one-row a.merged.now m.spanned _ n many (omega (arith, c.if-n-eq0.false)) c.place_clusters-placed.result _ _ floats words
-        c.place_clusters-placed.ensures c.origin_of-origin.result c.pen_after-pen.result c.origin_of-origin.ensures c.pen_after-pen.ensures in
+    c.place_clusters-placed.ensures c.origin_of-origin.result c.pen_after-pen.result c.origin_of-origin.ensures c.pen_after-pen.ensures in
     let short = row-short m _ n many (done-given _ _ told c.in-Done.is) _ one in (
       record {
         few_spans = omega (arith, m.spanned.few);
@@ -179,12 +179,12 @@ progress_behind-requires-2 c =
     let text-short : length c.text_of-text.result.now ≤ 4096 = rw text (few_bytes m.spanned.checked) in
     let told =
     c.adjust_lengths-adjusted.ensures
-        ∙ adjusted-is a.merged.now m.spanned text c.form_clusters-n.ensures.clusters c.apply_writing_mode.ensures
-        c.apply_letter_spacing.ensures c.apply_word_spacing.ensures in
+    ∙ adjusted-is a.merged.now m.spanned text c.form_clusters-n.ensures.clusters c.apply_writing_mode.ensures
+    c.apply_letter_spacing.ensures c.apply_word_spacing.ensures in
     let many = clusters-length c.adjust_lengths-adjusted.new.floats c.adjust_lengths-adjusted.new.words n (omega arith) (omega arith) in
     let one =
     one-row a.merged.now m.spanned _ n many (omega (arith, c.if-n-eq0.false)) c.place_clusters-placed.result _ _ floats words
-        c.place_clusters-placed.ensures c.origin_of-origin.result c.pen_after-pen.result c.origin_of-origin.ensures c.pen_after-pen.ensures in
+    c.place_clusters-placed.ensures c.origin_of-origin.result c.pen_after-pen.result c.origin_of-origin.ensures c.pen_after-pen.ensures in
     let short = row-short m _ n many (done-given _ _ told c.in-Done.is) _ one in (
       omega (arith, text-short, m.spanned.checked.offset),
       omega (arith, c.write_chunk_row-row.ensures.length, short, few, m.few, m.spanned.few, m.spanned.checked.bytes),
@@ -198,10 +198,10 @@ returns c =
     let text = c.text_of-text.ensures ∙ ap (λ (bs : List ℕ). (chunk_of bs).text) c.tail-chunk.ensures in
     let told =
     c.adjust_lengths-adjusted.ensures
-        ∙ adjusted-is a.merged.now m.spanned text c.form_clusters-n.ensures.clusters c.apply_writing_mode.ensures
-        c.apply_letter_spacing.ensures c.apply_word_spacing.ensures in
+    ∙ adjusted-is a.merged.now m.spanned text c.form_clusters-n.ensures.clusters c.apply_writing_mode.ensures
+    c.apply_letter_spacing.ensures c.apply_word_spacing.ensures in
     let many = clusters-length c.adjust_lengths-adjusted.new.floats c.adjust_lengths-adjusted.new.words n (omega arith) (omega arith) in
     let one =
     one-row a.merged.now m.spanned _ n many (omega (arith, c.if-n-eq0.false)) c.place_clusters-placed.result _ _ (omega arith) (omega arith)
-        c.place_clusters-placed.ensures c.origin_of-origin.result c.pen_after-pen.result c.origin_of-origin.ensures c.pen_after-pen.ensures in
+    c.place_clusters-placed.ensures c.origin_of-origin.result c.pen_after-pen.result c.origin_of-origin.ensures c.pen_after-pen.ensures in
     one-laid a.s.now a.next a.merged.now one (done-given _ _ told c.in-Done.is) refl text c.write_chunk_row-row.ensures c.progress_behind-2.ensures

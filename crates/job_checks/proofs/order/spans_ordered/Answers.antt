@@ -1,7 +1,6 @@
 use mathlib.Core.Path.{refl, sym, ◌∙◌}
 use lib.ListN.{drop}
-use Rattle.spec.specs.Decode.{span_size}
-use Rattle.job_checks.proofs.Orders.{in_order, ordered-stop, ordered-on, ordered-last, ordered-done}
+use Rattle.job_checks.proofs.Orders.{ordered-stop, ordered-on, ordered-last, ordered-done}
 use native.Mathlib.Omega.{arith}
 use Rattle.job_checks.proofs.order.spans_ordered.Goals as goal
 

@@ -1,6 +1,4 @@
 -- `job_checks::walk::glyph_row_ok` meets its contract. Assumes nothing.
-use Rattle.spec.specs.Decode.{glyph_of}
-use Rattle.spec.specs.Check.{glyph_ok}
 use Rattle.job_checks.proofs.walk.glyph_row_ok.Goals as goal
 
 pub returns-then-row-ge-GLYPH_BYTES : goal.returns-then-row-ge-GLYPH_BYTES
