@@ -1,5 +1,6 @@
 // The call: a job in, an answer or a refusal out.
 #![tactic(auto)]
+
 mod chunks;
 mod staging;
 

@@ -6,9 +6,7 @@ use native.Mathlib.Nat.{div-lt_iff_lt-mul}
 use native.Mathlib.Omega.{arith}
 use lib.Dec.{ltb}
 use borrow.Author.Tests.{ltb-true, ltb-false}
-use borrow.Author.Rules.{rules}
-use Rattle.layout.proofs.staging.has_room.Statement.{statement}
-use Rattle.layout.proofs.staging.has_room.Tie as tie
+use Rattle.layout.proofs.staging.has_room.Goals as goal
 
 -- a quotient is less exactly where the number is less than the product
 quotient-less : (x y : ℕ) → ltb (x / 25) y ≡ ltb x (y * 25)
@@ -20,11 +18,5 @@ quotient-less x y = go (ltb (x / 25) y) (ltb x (y * 25)) refl refl
     go true false e f = let h : x < y * 25 = (div-lt_iff_lt-mul {k = 25} {x = x} {y = y} (omega arith)).0 (ltb-true (x / 25) y e) in absurd (omega (arith, ltb-false x (y * 25) f))
     go false true e f = let h : x / 25 < y = (div-lt_iff_lt-mul {k = 25} {x = x} {y = y} (omega arith)).1 (ltb-true x (y * 25) f) in absurd (omega (arith, ltb-false (x / 25) y e))
 
-mul-result : tie.Need-overflow-mul-result
-mul-result c = search rules
-
-returns : tie.Need-returns
+pub returns : goal.returns
 returns c = quotient-less (64 * c.args.job) c.args.answer
-
-pub has-room-spec : {M : Type 1} → statement M
-has-room-spec = tie.close (tie.spec mul-result returns)

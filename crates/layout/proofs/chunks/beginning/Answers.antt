@@ -3,12 +3,8 @@ use mathlib.Core.Path.{refl}
 use mathlib.Core.List.{flat_map}
 use lib.Ieee.{of_bits}
 use Rattle.chunk.specs.Steps.{progress_after, written_bytes}
-use Rattle.layout.proofs.chunks.beginning.Statement.{statement}
-use Rattle.layout.proofs.chunks.beginning.Tie as tie
+use Rattle.layout.proofs.chunks.beginning.Goals as goal
 
-returns : tie.Need-returns
+pub returns : goal.returns
 unfolding of_bits progress_after written_bytes flat_map
 returns c = refl
-
-pub beginning-spec : {M : Type 1} → statement M
-beginning-spec = tie.close (tie.spec returns)
