@@ -7,7 +7,7 @@ use Rattle.spec.specs.Decode.{list_of}
 use Rattle.spec.specs.Position.{marked}
 use Rattle.cluster_table.specs.Clusters.{Cluster, indexes_in}
 use Rattle.job_rows.specs.Rows.{job_at}
-use Rattle.cluster_table.proofs.LoopSteps.{stored, stage-turn, stage-done}
+use Rattle.cluster_table.proofs.LoopSteps.{stage-turn, stage-done}
 use Rattle.position.proofs.Marking.{marked-index, marked_by_lem, last, indexes-set, mark-start, angle-at}
 use Rattle.position.proofs.relative.mark_relative_shifts.Goals as goal
 
