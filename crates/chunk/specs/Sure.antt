@@ -1,5 +1,5 @@
 -- Spans that have a text length, and a chunk that is sure to be laid out. Definitions only.
-use Rattle.std.specs.Prelude.{ℕ, ◌+◌, Bool, cond, not, ◌&&◌, List, length, leb, eqb}
+use Rattle.std.specs.Prelude.{◌+◌, Bool, cond, not, ◌&&◌, length, leb, eqb}
 use Rattle.spec.specs.Lists.{any}
 use Rattle.spec.specs.declared.Span.{Span}
 use Rattle.spec.specs.Job.{Chunk, spans_of, has_length, adjust_spacing_and_glyphs}

@@ -13,7 +13,6 @@ use Rattle.spec.specs.Outcome.{given}
 use Rattle.spec.specs.Lists.{all}
 use Rattle.spec.specs.Bytes.{be, sizes}
 use Rattle.spec.specs.declared.Job.{Job}
-use Rattle.spec.specs.Job as definitions
 use Rattle.spec.specs.Decode.{shaped, job_of, dx_at, dy_at, rotate_at, chunk_count_at, chunk_count_bytes, chunk_count, chunk_bytes, chunk_size}
 use Rattle.spec.specs.Check.{checked, after_version, length_ok, values_ok, chunk_ok}
 use Rattle.job_rows.specs.Rows.{fonts_in, job_at}

@@ -1,7 +1,7 @@
 -- Chunks that are sure to be laid out, in a buffer that has room for any answer to their job: their rows go straight into it. Assumes nothing.
-use Prim.Native.Nat.{ℕ, zero, suc, ◌+◌, ◌-◌, ◌*◌, ◌≤◌, ◌<◌, min}
+use Prim.Native.Nat.{ℕ, ◌+◌, ◌-◌, ◌*◌, ◌≤◌, ◌<◌, min}
 use mathlib.Core.Path.{◌≡◌, refl, sym, ap, ◌∙◌}
-use mathlib.Core.Bool.{Bool, true, false, ◌&&◌}
+use mathlib.Core.Bool.{true, false, ◌&&◌}
 use mathlib.Core.List.{List, [], ◌∷◌, foldl}
 use native.Mathlib.Omega.{arith}
 use lib.ListN.{length, drop}
@@ -10,7 +10,7 @@ use Rattle.spec_laws.proofs.All.{and_left, and_right}
 use Rattle.spec_laws.proofs.AnswerBound.{answer-bound}
 use Rattle.spec.specs.Bytes.{rows, all_records}
 use Rattle.spec.specs.Lists.{all}
-use Rattle.spec.specs.Outcome.{Outcome, given, and_then}
+use Rattle.spec.specs.Outcome.{given, and_then}
 use Rattle.spec.specs.declared.Job.{Job}
 use Rattle.spec.specs.Job as definitions
 use Rattle.spec.specs.Decode.{chunk_size, chunk_fits, chunk_of}

@@ -1,27 +1,15 @@
 -- `layout::layout_text` meets its contract. Assumes nothing.
-use Prim.Native.Nat.{ℕ}
-use mathlib.Core.Path.{◌≡◌, sym, ◌∙◌}
-use mathlib.Core.List.{List}
+use mathlib.Core.Path.{sym, ◌∙◌}
 use native.Mathlib.Omega.{arith}
-use lib.ListN.{length}
-use Rattle.spec.specs.Outcome.{Outcome, given}
 use Rattle.spec.specs.Answer.{answer_head_size}
-use Rattle.spec.specs.declared.Job.{Job}
-use Rattle.spec.specs.Layout.{Progress}
-use Rattle.job_checks.specs.Verdict.{verdict_of}
-use Rattle.job_checks.specs.declared.check.Checked.TheVariants as C
 use Rattle.job_checks.proofs.Verdicts.{refusal-where-refused}
-use Rattle.chunk.specs.declared.progress.Progress as chunk
-use Rattle.chunk.specs.Steps.{progress_after}
-use Rattle.layout.specs.Called.{LayoutPromise}
-use Rattle.layout.specs.Checked.{CheckedJob}
-use Rattle.layout.specs.Steps.{job_outcome, answered}
+use Rattle.layout.specs.Steps.{job_outcome}
 use Rattle.layout.proofs.Accepting.{job-given, checked-job}
 use Rattle.layout.proofs.Promised.{bytes_of, promised-given, promised-refused}
 use Rattle.layout.proofs.Single.{count-of-chunks}
 use Rattle.layout.proofs.Outcomes.{refused-of, given-of}
-use Rattle.layout.proofs.Copied.{answer_length, end-length}
-use Rattle.layout.proofs.Answering.{Answers, rows-many, answers-refused, answers-too-long, answers-written}
+use Rattle.layout.proofs.Copied.{end-length}
+use Rattle.layout.proofs.Answering.{rows-many, answers-refused, answers-too-long, answers-written}
 use Rattle.layout.proofs.layout_text.Goals as goal
 
 -- ---- a record that does not pass the checks

@@ -1,8 +1,6 @@
 -- `chunk::chunk::listed_chunk` meets its contract. Assumes nothing.
-use Prim.Native.Nat.{ℕ, ◌≤◌}
 use native.Mathlib.Omega.{arith}
 use borrow.Author.Tests.{leb-true}
-use lib.ListN.{length}
 use Rattle.chunk.proofs.Spans.{lent_length}
 use Rattle.chunk.proofs.Merging.{own-few, own-merged, merged-laid}
 use Rattle.chunk.proofs.chunk.listed_chunk.Goals as goal

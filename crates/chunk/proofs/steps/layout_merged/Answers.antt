@@ -1,6 +1,6 @@
 -- `chunk::steps::layout_merged` meets its contract: step by step, each from what the ones before it gave. Assumes nothing.
 use Prim.Native.Nat.{ℕ, ◌≤◌, ◌<◌}
-use mathlib.Core.Path.{◌≡◌, refl, sym, ap, ◌∙◌}
+use mathlib.Core.Path.{◌≡◌, refl, ap, ◌∙◌}
 use mathlib.Core.List.{List}
 use native.Mathlib.Omega.{arith}
 use lib.ListN.{length, take}
@@ -14,7 +14,7 @@ use Rattle.spec.specs.Decode.{chunk_of}
 use Rattle.spec.specs.Answer.{ChunkRow, chunk_row_bytes}
 use Rattle.spec.specs.Layout.{adjusted_clusters, resolve_clusters_positions_horizontal, origin_of, pen_after}
 use Rattle.job_rows.specs.Rows.{glyphs_at}
-use Rattle.cluster_table.specs.Clusters.{clusters_of, indexes_in}
+use Rattle.cluster_table.specs.Clusters.{clusters_of}
 use Rattle.cluster_table.proofs.Rows.{clusters-length}
 use Rattle.text_order.specs.Ordered.{Sortable}
 use Rattle.text_order.proofs.Order.{sortable-still}

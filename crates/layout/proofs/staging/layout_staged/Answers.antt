@@ -1,18 +1,13 @@
 -- `layout::staging::layout_staged` meets its contract. Assumes nothing.
 use Prim.Native.Nat.{ℕ}
-use mathlib.Core.Path.{◌≡◌, sym, ◌∙◌}
+use mathlib.Core.Path.{sym, ◌∙◌}
 use mathlib.Core.List.{List}
 use native.Mathlib.Omega.{arith}
 use lib.ListN.{length, replicate, length-take, length-drop}
-use Rattle.spec.specs.Outcome.{Outcome, given}
 use Rattle.spec.specs.Answer.{answer_head_size}
-use Rattle.spec.specs.Layout.{Progress}
-use Rattle.chunk.specs.declared.progress.Progress as chunk
-use Rattle.chunk.specs.declared.progress.ChunkResult.TheVariants.{Done}
-use Rattle.chunk.specs.Steps.{progress_after, result_of}
 use Rattle.layout.specs.Steps.{job_outcome}
 use Rattle.layout.proofs.Outcomes.{refused-of, given-of}
-use Rattle.layout.proofs.Copied.{answer_length, end-length, refused-unput, longer-unput, fits-of, rows-copied}
+use Rattle.layout.proofs.Copied.{end-length, refused-unput, longer-unput, fits-of, rows-copied}
 use Rattle.layout.proofs.staging.layout_staged.Goals as goal
 
 -- ---- no chunk is refused
