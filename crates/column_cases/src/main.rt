@@ -10,6 +10,7 @@ ghost use Rattle.std.specs.Prelude.{◌≤◌};
 
 use column_window::{WINDOW_WORDS, open_window};
 use std::env;
+use std::fs::File;
 use wire::read::{u8_at, u32_at};
 use wire::slice::tail;
 
@@ -75,18 +76,21 @@ fn show_case(file: &[u8]) {
     show_past(&words);
 }
 
-fn show_file(rt: &HostRuntime, path: &str) -> std::io::Result<()> {
-    if let Some(mut named) = named_files::open_argument(rt, path)? {
-        let mut file = [0u8; ROOM];
-        let n = named_files::read_full(&mut named, &mut file)?;
-        show_case(&file[..n]);
+fn show_read(named: &mut File) {
+    let mut file = [0u8; ROOM];
+    let n = named_files::read_full(named, &mut file);
+    show_case(&file[..n]);
+}
+
+fn show_file(rt: &HostRuntime, path: &str) {
+    if let Some(mut named) = named_files::open_argument(rt, path) {
+        show_read(&mut named);
     }
-    Ok(())
 }
 
 fn main(rt: HostRuntime) -> std::io::Result<()> {
     for path in env::args(&rt)?.skip(1) {
-        show_file(&rt, path.as_str())?;
+        show_file(&rt, path.as_str());
     }
     Ok(())
 }

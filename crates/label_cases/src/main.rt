@@ -5,19 +5,18 @@ use std::env;
 
 const STDOUT: i32 = 1;
 
-fn show_file(rt: &HostRuntime, path: &str) -> std::io::Result<()> {
-    if let Some(mut file) = named_files::open_argument(rt, path)? {
-        let mut job = [0u8; text_form::JOB_ROOM];
-        let n = named_files::read_full(&mut file, &mut job)?;
+fn show_file(rt: &HostRuntime, path: &str) {
+    if let Some(mut file) = named_files::open_argument(rt, path) {
         io::write_all(STDOUT, b"\n");
+        let mut job = [0u8; text_form::JOB_ROOM];
+        let n = named_files::read_full(&mut file, &mut job);
         text_form::show_job(&job[..n]);
     }
-    Ok(())
 }
 
 fn main(rt: HostRuntime) -> std::io::Result<()> {
     for path in env::args(&rt)?.skip(1) {
-        show_file(&rt, path.as_str())?;
+        show_file(&rt, path.as_str());
     }
     Ok(())
 }

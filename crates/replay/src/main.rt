@@ -11,6 +11,7 @@ ghost use Rattle.replay.specs.Same.{same};
 
 use layout::{Answered, layout_text};
 use std::env;
+use std::fs::File;
 use wire::read::u32_at;
 use wire::slice::{offset_after, tail, window};
 
@@ -78,18 +79,21 @@ fn replay_records(file: &[u8]) {
     show_counts(agree, count - agree);
 }
 
-fn replay_file(rt: &HostRuntime, path: &str) -> std::io::Result<()> {
-    if let Some(mut named) = named_files::open_argument(rt, path)? {
-        let mut file = [0u8; FILE_ROOM];
-        let n = named_files::read_full(&mut named, &mut file)?;
-        replay_records(&file[..n]);
+fn replay_read(named: &mut File) {
+    let mut file = [0u8; FILE_ROOM];
+    let n = named_files::read_full(named, &mut file);
+    replay_records(&file[..n]);
+}
+
+fn replay_file(rt: &HostRuntime, path: &str) {
+    if let Some(mut named) = named_files::open_argument(rt, path) {
+        replay_read(&mut named);
     }
-    Ok(())
 }
 
 fn main(rt: HostRuntime) -> std::io::Result<()> {
     for path in env::args(&rt)?.skip(1) {
-        replay_file(&rt, path.as_str())?;
+        replay_file(&rt, path.as_str());
     }
     Ok(())
 }
