@@ -96,15 +96,17 @@ pub const RUN_BYTES: usize = 6;
 // ---- rows that begin with their counts
 
 // The bytes of the cluster row that `row` starts with.
+#[tactic(auto, unfolding(spec::specs::Answer::cluster_row_size_of))]
 pub fn cluster_size(row: &[u8]) -> usize
     ensures { result ≡ cluster_row_size_of row.now }
 {
-    CLUSTER_ROW_BYTES + GLYPH_ROW_BYTES * (u16_at(row, GLYPH_COUNT_AT) as usize)
+    CLUSTER_ROW_BYTES + GLYPH_ROW_BYTES * usize::from(u16_at(row, GLYPH_COUNT_AT))
 }
 
 // The bytes of the span row that `row` starts with.
+#[tactic(auto, unfolding(spec::specs::Answer::span_row_size_of))]
 pub fn span_size(row: &[u8]) -> usize
     ensures { result ≡ span_row_size_of row.now }
 {
-    RUNS_AT + RUN_BYTES * (u16_at(row, RUN_COUNT_AT) as usize)
+    RUNS_AT + RUN_BYTES * usize::from(u16_at(row, RUN_COUNT_AT))
 }

@@ -3,8 +3,7 @@ use Prim.Native.Nat.{ℕ, ◌+◌, ◌-◌, ◌≤◌, ◌<◌}
 use mathlib.Core.Path.{◌≡◌, refl, sym, ap, ◌∙◌}
 use mathlib.Core.List.{List, ◌++◌, map, flat_map, append_assoc, append-nil}
 use native.Mathlib.Omega.{arith}
-use lib.Ieee.{Float}
-use lib.ListN.{length, length-append}
+use lib.ListN.{length, length-append, length-map}
 use borrow.Author.Tests.{le-leb, lt-leb}
 use Rattle.spec.specs.declared.Point.{Point}
 use Rattle.spec.specs.declared.Glyph.{Glyph}
@@ -17,12 +16,11 @@ use Rattle.spec_laws.proofs.Numbers.{length-bytes, length-float_bytes}
 use Rattle.spec_laws.proofs.AnswerLength.{length-chunk_row}
 use Rattle.wire.specs.Splice.{splice}
 use Rattle.job_rows.specs.Rows.{glyphs_at, parts_in, job_at}
-use Rattle.decoration.specs.Runs.{all_clusters}
 use Rattle.answer_rows.specs.declared.chunk.Frame.{Frame}
 use Rattle.answer_rows.specs.Clusters.{clusters_size}
-use Rattle.answer_rows.specs.Chunks.{chunk_row, empty_row, chunk_head_bytes, row_at, RowLength, Writable, splice_if_fits, RowWritten}
+use Rattle.answer_rows.specs.Chunks.{chunk_row, empty_row, chunk_head_bytes, row_at, RowLength, splice_if_fits, RowWritten}
 use Rattle.answer_rows.proofs.GlyphsLeft.{glyphs-count}
-use Rattle.answer_rows.proofs.ClusterRows.{rows-size, length-rows, count-rows}
+use Rattle.answer_rows.proofs.ClusterRows.{rows-size, length-rows}
 use Rattle.answer_rows.proofs.Puts.{put-start, put-turn}
 
 pub length-head : (clusters spans : ℕ) (pen : Point) → length (chunk_head_bytes clusters spans pen) ≡ chunk_head_size
@@ -30,7 +28,7 @@ unfolding chunk_head_bytes
 length-head clusters spans pen = simp (length-append, length-bytes, length-float_bytes) (omega arith)
 
 -- what stands before the rows, the clusters' rows, the spans' rows
-pub chunk-parts : (row : ChunkRow) (clusters spans : ℕ) → clusters ≡ length row.clusters → spans ≡ length row.spans
+chunk-parts : (row : ChunkRow) (clusters spans : ℕ) → clusters ≡ length row.clusters → spans ≡ length row.spans
     → chunk_row_bytes row ≡ chunk_head_bytes clusters spans (record { x = row.pen_x; y = row.pen_y }) ++ (flat_map cluster_row_bytes row.clusters ++ flat_map span_row_bytes row.spans)
 unfolding chunk_row_bytes chunk_head_bytes
 chunk-parts row clusters spans e f = rw (e, f) (simp append_assoc)
@@ -60,22 +58,22 @@ module _ (out : List ℕ) (at : ℕ) (bs : List ℕ) where
   unfolding splice_if_fits
   put-none h = rw (lt-leb (at + length bs) (length out) h)
 
-module _ (s : List ℕ) (job : Job) (spans merged : List ℕ) (frame : Frame) (floats : List (List Float)) (words : List (List ℕ)) where
+module _ (s : List ℕ) (job : Job) (spans merged : List ℕ) (frame : Frame) (cs : List Cluster) where
   abbrev row : ChunkRow
-  row = row_at s job spans merged frame floats words
+  row = row_at s job spans merged frame cs
 
   abbrev clusters_long : ℕ
-  clusters_long = clusters_size (length merged) (all_clusters floats words)
+  clusters_long = clusters_size (length merged) cs
 
   abbrev spans_long : ℕ
   spans_long = sum (map span_row_length row.spans)
 
   -- by its parts, and as it was measured
-  pub row-size : length (chunk_row_bytes row) ≡ chunk_head_size + clusters_long + spans_long
-  row-size =
-      length-chunk_row row ∙ chunk-size (job_at s job) frame.origin frame.pen (glyphs_at s merged) (length merged) (glyphs-count s merged) (all_clusters floats words) (parts_in s spans)
+  pub row_size : length (chunk_row_bytes row) ≡ chunk_head_size + clusters_long + spans_long
+  row_size =
+      length-chunk_row row ∙ chunk-size (job_at s job) frame.origin frame.pen (glyphs_at s merged) (length merged) (glyphs-count s merged) cs (parts_in s spans)
 
-  pub row-measured : {r : ℕ} → RowLength r (length merged) (all_clusters floats words) (parts_in s spans) → r ≡ length (chunk_row_bytes row)
+  pub row-measured : {r : ℕ} → RowLength r (length merged) cs (parts_in s spans) → r ≡ length (chunk_row_bytes row)
   row-measured is = is (job_at s job) frame.origin frame.pen (glyphs_at s merged) (glyphs-count s merged) ∙ sym (length-chunk_row row)
 
   module _ (out : List ℕ) (at : ℕ) where
@@ -83,20 +81,20 @@ module _ (s : List ℕ) (job : Job) (spans merged : List ℕ) (frame : Frame) (f
     row-left e h = record { length = e; buffer = put-none out at (chunk_row_bytes row) (omega (arith, e)) }
 
     -- its three parts are put one after the other
-    pub row_put : Writable s spans merged floats words → at + length (chunk_row_bytes row) ≤ length out → {k behind end : ℕ} {out₁ out₂ out₃ : List ℕ} → k ≡ length row.spans
-        → out₁ ≡ splice out at (chunk_head_bytes (length words) k frame.pen)
+    pub row_put : at + length (chunk_row_bytes row) ≤ length out → {k behind end : ℕ} {out₁ out₂ out₃ : List ℕ} → k ≡ length row.spans
+        → out₁ ≡ splice out at (chunk_head_bytes (length cs) k frame.pen)
         → (out₂ ≡ splice out₁ (at + chunk_head_size) (flat_map cluster_row_bytes row.clusters)) × (behind ≡ at + chunk_head_size + clusters_long)
         → (end ≡ behind + spans_long) × (out₃ ≡ splice out₂ behind (flat_map span_row_bytes row.spans))
         → RowWritten at (end - at) out out₃ row
-    row_put w room {k} {behind} counted e₁ e₂ e₃ =
+    row_put room {k} {behind} counted e₁ e₂ e₃ =
         let bc = flat_map cluster_row_bytes row.clusters in
         let bs = flat_map span_row_bytes row.spans in
-        let parts = chunk-parts row (length words) k (sym (count-rows job.mode (glyphs_at s merged) floats words w.tables)) counted in
-        let lc = length-rows job.mode (glyphs_at s merged) (length merged) (glyphs-count s merged) (all_clusters floats words) in
+        let parts = chunk-parts row (length cs) k (sym (length-map cs _)) counted in
+        let lc = length-rows job.mode (glyphs_at s merged) (length merged) (glyphs-count s merged) cs in
         let p₀ = put-start {old = out} {at = at} {bs = chunk_row_bytes row} room in
-        let p₁ = put-turn p₀ (chunk_head_bytes (length words) k frame.pen) (bc ++ bs) {here' = at + 11} parts e₁ (omega (arith, length-head (length words) k frame.pen)) in
+        let p₁ = put-turn p₀ (chunk_head_bytes (length cs) k frame.pen) (bc ++ bs) {here' = at + 11} parts e₁ (omega (arith, length-head (length cs) k frame.pen)) in
         let p₂ = put-turn p₁ bc bs {here' = behind} refl e₂.0 (omega (arith, e₂.1, lc)) in
         record {
-          length = omega (arith, e₂.1, e₃.0, row-size);
+          length = omega (arith, e₂.1, e₃.0, row_size);
           buffer = e₃.1 ∙ p₂.whole ∙ put-within out at (chunk_row_bytes row) room;
         }

@@ -1,60 +1,49 @@
 -- Glyph rows put one after the other: the next one, and the end. Assumes nothing.
 use Prim.Native.Nat.{ℕ, suc, ◌+◌, ◌*◌, ◌≤◌, ◌<◌}
-use mathlib.Core.Path.{◌≡◌, refl, ap, ◌∙◌}
+use mathlib.Core.Path.{◌≡◌, refl, sym, ap, ◌∙◌}
 use mathlib.Core.Bool.{true}
 use mathlib.Core.List.{List, [], ◌∷◌, ◌++◌, flat_map}
-use native.Mathlib.Nat.{le_refl}
+use native.Mathlib.Numerals.{add-one}
 use native.Mathlib.Omega.{arith}
 use lib.ListN.{length, get_or, drop, length-map, drop_of_length-le}
-use lib.Seq.{take-length}
+use lib.Seq.{drop-cons}
 use lib.Ieee.{Float, binary32, of_int}
 use Rattle.spec.specs.declared.Glyph.{Glyph}
 use Rattle.spec.specs.Single.{◌+ᶠ◌, +0}
-use Rattle.spec.specs.Check.{units_ok}
 use Rattle.spec.specs.Decode.{glyph_of}
 use Rattle.spec.specs.Answer.{glyph_row_bytes, glyph_row_size}
 use Rattle.spec.specs.Layout.{glyph_rows}
-use Rattle.spec_laws.proofs.All.{and_left, and_right}
+use Rattle.spec_laws.proofs.All.{all-at}
 use Rattle.spec_laws.proofs.AnswerLength.{length-glyph_row, length-equal}
-use Rattle.job_rows.specs.Rows.{glyphs_at, glyphs_in}
-use Rattle.clustering.proofs.Glyphs.{glyph-next}
-use Rattle.clustering.proofs.Passing.{all_first, all_rest}
+use Rattle.job_rows.specs.Rows.{glyphs_at}
+use Rattle.job_rows.proofs.ByNumber.{map-in}
 use Rattle.wire.specs.Splice.{splice}
 use Rattle.answer_rows.specs.Glyphs.{glyph_row, units_of, units_in}
 use Rattle.answer_rows.proofs.Puts.{Putting, put-room, put-turn, put-done}
 
--- ---- the next glyph's distances are within their bounds, and those behind it
-
-module _ {gs rest : List Glyph} {g : Glyph} (e : gs ≡ g ∷ rest) (h : units_in gs ≡ true) where
-  pub first-ok : units_of g ≡ true
-  first-ok = all_first units_of e h
-
-  pub rest_ok : units_in rest ≡ true
-  rest_ok = all_rest units_of e h
-
-module _ (g : Glyph) (h : units_of g ≡ true) where
-  pub dx-ok : units_ok g.dx ≡ true
-  dx-ok = and_left (units_ok g.dx) _ h
-
-  pub dy-ok : units_ok g.dy ≡ true
-  dy-ok = and_left (units_ok g.dy) _ (and_right (units_ok g.dx) _ h)
-
-  pub width-ok : units_ok g.width ≡ true
-  width-ok = and_right (units_ok g.dy) _ (and_right (units_ok g.dx) _ h)
-
 -- ---- the glyph that is read at place i is the next
 
 module _ (s places : List ℕ) where
-  all-glyphs : glyphs_in s places (length places) ≡ glyphs_at s places
-  unfolding glyphs_in
-  all-glyphs = ap (glyphs_at s) (take-length places)
-
   pub glyphs-count : length (glyphs_at s places) ≡ length places
   unfolding glyphs_at
   glyphs-count = length-map places _
 
-  pub glyph-here : (i at : ℕ) → at ≡ get_or places i 0 → i < length places → drop i (glyphs_at s places) ≡ glyph_of (drop at s) ∷ drop (i + 1) (glyphs_at s places)
-  glyph-here i at e h = rw e (rw all-glyphs at (glyph-next s places (length places) i h (le_refl _)))
+  module _ (i at : ℕ) (e : at ≡ get_or places i 0) (h : i < length places) where
+    abbrev here : Glyph
+    here = glyph_of (drop at s)
+
+    is_here : get_or (glyphs_at s places) i here ≡ here
+    unfolding glyphs_at
+    is_here = map-in (λ (at : ℕ). glyph_of (drop at s)) places i 0 here h ∙ ap (λ (at : ℕ). glyph_of (drop at s)) (sym e)
+
+    within : i < length (glyphs_at s places)
+    within = rw glyphs-count h
+
+    pub glyph-here : drop i (glyphs_at s places) ≡ here ∷ drop (i + 1) (glyphs_at s places)
+    glyph-here = rw (add-one, drop-cons (glyphs_at s places) i here within) (ap (λ (g : Glyph). g ∷ drop (suc i) (glyphs_at s places)) is_here)
+
+    pub units-here : units_in (glyphs_at s places) ≡ true → units_of here ≡ true
+    units-here ok = rw is_here at (all-at units_of (glyphs_at s places) i here ok within)
 
   pub no-glyph : (i : ℕ) → length places ≤ i → drop i (glyphs_at s places) ≡ []
   no-glyph i h = drop_of_length-le (glyphs_at s places) {i = i} (rw glyphs-count h)

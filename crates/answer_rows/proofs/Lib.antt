@@ -1,7 +1,5 @@
 pub mod Puts
-pub mod Units
 pub mod GlyphsLeft
-pub mod Most
 pub mod RowMost
 pub mod ClusterRows
 pub mod SpanRows

@@ -70,11 +70,11 @@ put_four old at a b c d room h₁ h₂ h₃ e₁ e₂ e₃ e₄ =
 -- ---- rows of one list, of which those from place i on are left
 
 module _ {A B : Type 0} (write : A → List B) (xs : List A) where
-  pub rows_next : (i : ℕ) (d : A) → i < length xs → flat_map write (drop i xs) ≡ write (get_or xs i d) ++ flat_map write (drop (i + 1) xs)
+  rows_next : (i : ℕ) (d : A) → i < length xs → flat_map write (drop i xs) ≡ write (get_or xs i d) ++ flat_map write (drop (i + 1) xs)
   unfolding flat_map
   rows_next i d h = rw (add-one, drop-cons xs i d h)
 
-  pub rows_end : (i : ℕ) → length xs ≤ i → flat_map write (drop i xs) ≡ []
+  rows_end : (i : ℕ) → length xs ≤ i → flat_map write (drop i xs) ≡ []
   unfolding flat_map
   rows_end i h = rw (drop_of_length-le xs h)
 

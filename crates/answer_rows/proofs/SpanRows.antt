@@ -1,7 +1,7 @@
 -- A span row from its parts; the rows of a list of spans, span by span. Assumes nothing.
 use Prim.Native.Nat.{ℕ, suc, ◌+◌, ◌*◌, ◌≤◌, ◌<◌}
 use mathlib.Core.Path.{◌≡◌, refl, ap, ◌∙◌}
-use mathlib.Core.Bool.{Bool, true, false, cond}
+use mathlib.Core.Bool.{Bool, true, false, not, cond}
 use mathlib.Core.List.{List, [], ◌∷◌, ◌++◌, map, flat_map, append-nil, append_assoc}
 use native.Mathlib.Omega.{arith}
 use lib.Ieee.{Float}
@@ -10,6 +10,8 @@ use lib.Dec.{eqb}
 use lib.ListN.{length, get_or, drop, length-append, length-map, drop_of_length-le}
 use lib.Seq.{drop-cons}
 use borrow.Author.Tests.{not-true, not-false}
+use Rattle.std.specs.List.{sum_by, count_by}
+use Rattle.std.proofs.lemmas.List.Sums.{sum_by-cons}
 use Rattle.spec.specs.declared.Run.{Run}
 use Rattle.spec.specs.declared.Span.{Span}
 use Rattle.spec.specs.declared.Point.{Point}
@@ -24,9 +26,9 @@ use Rattle.spec_laws.proofs.AnswerLength.{length-flat_map, length-floats, length
 use Rattle.wire.specs.Splice.{splice}
 use Rattle.job_rows.specs.Rows.{parts_in}
 use Rattle.job_rows.proofs.ByNumber.{map-in}
-use Rattle.decoration.proofs.Runs.{flat_map-append, length_runs}
-use Rattle.answer_rows.specs.Spans.{row_floats, span_head_bytes, has_row}
-use Rattle.answer_rows.proofs.Puts.{splice-before}
+use Rattle.decoration.proofs.Runs.{flat_map-append, length_runs, runs-few}
+use Rattle.answer_rows.specs.Spans.{row_floats, span_head_bytes, has_row, span_size}
+use Rattle.answer_rows.proofs.Puts.{splice-before, Putting, put-start, put-room, put-turn, put-done}
 
 -- ---- a row: what comes before its runs, and the runs
 
@@ -52,15 +54,10 @@ module _ (j : Job) (origin : Point) (cs : List Cluster) (k : ℕ) (s : List ℕ)
   unfolding span_row parts_of
   row-runs = ap (λ (sp : Span). collect_decoration_spans sp cs) e
 
-  pub run-count : length (collect_decoration_spans span cs) ≡ length (span_row j origin cs k (parts_of (drop place s))).runs
-  run-count = ap length row-runs
+  pub run_count : length (collect_decoration_spans span cs) ≡ length (span_row j origin cs k (parts_of (drop place s))).runs
+  run_count = ap length row-runs
 
 -- ---- rows one after the other
-
-module _ {A : Type 0} where
-  sum-append : (size : A → ℕ) (xs ys : List A) → sum (map size (xs ++ ys)) ≡ sum (map size xs) + sum (map size ys)
-  sum-append size [] ys = omega arith
-  sum-append size (x ∷ xs) ys = let e = sum-append size xs ys in omega (arith, e)
 
 pub length-rows : (rows : List SpanRow) → length (flat_map span_row_bytes rows) ≡ sum (map span_row_length rows)
 length-rows = length-flat_map span_row_bytes span_row_length length-span_row
@@ -68,27 +65,27 @@ length-rows = length-flat_map span_row_bytes span_row_length length-span_row
 -- ---- the rows of spans
 
 module _ (j : Job) (origin : Point) (cs : List Cluster) where
-  pub one-row : (k : ℕ) (p : SpanParts) → has_row p ≡ true → span_rows j origin cs k (p ∷ []) ≡ span_row j origin cs k p ∷ []
+  one-row : (k : ℕ) (p : SpanParts) → has_row p ≡ true → span_rows j origin cs k (p ∷ []) ≡ span_row j origin cs k p ∷ []
   unfolding span_rows
   one-row k p h = rw (not-true (eqb p.span.font no_font) h)
 
-  pub no_row : (k : ℕ) (p : SpanParts) → has_row p ≡ false → span_rows j origin cs k (p ∷ []) ≡ []
+  no_row : (k : ℕ) (p : SpanParts) → has_row p ≡ false → span_rows j origin cs k (p ∷ []) ≡ []
   unfolding span_rows
   no_row k p h = rw (not-false (eqb p.span.font no_font) h)
 
-  pub one-bytes : (k : ℕ) (p : SpanParts) → has_row p ≡ true → flat_map span_row_bytes (span_rows j origin cs k (p ∷ [])) ≡ span_row_bytes (span_row j origin cs k p)
+  pub one_bytes : (k : ℕ) (p : SpanParts) → has_row p ≡ true → flat_map span_row_bytes (span_rows j origin cs k (p ∷ [])) ≡ span_row_bytes (span_row j origin cs k p)
   unfolding flat_map
-  one-bytes k p h = rw (one-row k p h) (append-nil (span_row_bytes (span_row j origin cs k p)))
+  one_bytes k p h = rw (one-row k p h) (append-nil (span_row_bytes (span_row j origin cs k p)))
 
-  pub one-sum : (k : ℕ) (p : SpanParts) → has_row p ≡ true → sum (map span_row_length (span_rows j origin cs k (p ∷ []))) ≡ span_row_length (span_row j origin cs k p)
-  one-sum k p h = rw (one-row k p h) (omega arith)
+  pub one_sum : (k : ℕ) (p : SpanParts) → has_row p ≡ true → sum (map span_row_length (span_rows j origin cs k (p ∷ []))) ≡ span_row_length (span_row j origin cs k p)
+  one_sum k p h = rw (one-row k p h) (omega arith)
 
   pub no_bytes : (k : ℕ) (p : SpanParts) → has_row p ≡ false → flat_map span_row_bytes (span_rows j origin cs k (p ∷ [])) ≡ []
   unfolding flat_map
   no_bytes k p h = rw (no_row k p h)
 
-  pub no-sum : (k : ℕ) (p : SpanParts) → has_row p ≡ false → sum (map span_row_length (span_rows j origin cs k (p ∷ []))) ≡ 0
-  no-sum k p h = rw (no_row k p h)
+  pub no_sum : (k : ℕ) (p : SpanParts) → has_row p ≡ false → sum (map span_row_length (span_rows j origin cs k (p ∷ []))) ≡ 0
+  no_sum k p h = rw (no_row k p h)
 
   -- those of the first span, and those of the others
   rows_split : (k : ℕ) (p : SpanParts) (ps : List SpanParts) → span_rows j origin cs k (p ∷ ps) ≡ span_rows j origin cs k (p ∷ []) ++ span_rows j origin cs (k + 1) ps
@@ -129,21 +126,71 @@ module _ (j : Job) (origin : Point) (cs : List Cluster) where
     unfolding flat_map
     bytes-done i h = rw (rows-done i h)
 
-    -- how many rows, and how many bytes: what is counted, and what is still to come
-    pub count_turn : (done i : ℕ) {r : ℕ} → i < length places → r ≡ length (rows_at i) → done + r + length (rows_from (i + 1)) ≡ done + length (rows_from i)
-    count_turn done i h e =
-        let f : length (rows_from i) ≡ length (rows_at i) + length (rows_from (i + 1)) = ap length (rows-turn i h) ∙ length-append (rows_at i) (rows_from (i + 1)) in
-        omega arith
+-- ---- how many rows the spans at some places have, and how many bytes, as they are counted and added up
 
-    pub count-done : (done i : ℕ) → length places ≤ i → done ≡ done + length (rows_from i)
-    count-done done i h = rw (rows-done i h) (omega arith)
+module _ (j : Job) (origin : Point) (cs : List Cluster) (s : List ℕ) where
+  abbrev read_at : ℕ → SpanParts
+  read_at at = parts_of (drop at s)
 
-    pub sum-turn : (done i : ℕ) {r : ℕ} → i < length places → r ≡ sum (map span_row_length (rows_at i))
-        → done + r + sum (map span_row_length (rows_from (i + 1))) ≡ done + sum (map span_row_length (rows_from i))
-    sum-turn done i h e =
-        let f : sum (map span_row_length (rows_from i)) ≡ sum (map span_row_length (rows_at i)) + sum (map span_row_length (rows_from (i + 1))) =
-        ap (λ (rows : List SpanRow). sum (map span_row_length rows)) (rows-turn i h) ∙ sum-append span_row_length (rows_at i) (rows_from (i + 1)) in
-        omega arith
+  pub rows_counted : (k : ℕ) (places : List ℕ) → length (span_rows j origin cs k (parts_in s places)) ≡ count_by (λ at. has_row (parts_of (drop at s))) places
+  unfolding parts_in span_rows
+  rows_counted k [] = refl
+  rows_counted k (at ∷ places) =
+      rw sum_by-cons (go (eqb (read_at at).span.font no_font) _ _ (rows_counted (k + 1) places))
+    where
+      go : (b : Bool) (rest : List SpanRow) (row : SpanRow) {n : ℕ} → length rest ≡ n → length (cond b rest (row ∷ rest)) ≡ cond (not b) 1 0 + n
+      go true rest row e = omega arith
+      go false rest row e = omega arith
 
-    pub sum_done : (done i : ℕ) → length places ≤ i → done ≡ done + sum (map span_row_length (rows_from i))
-    sum_done done i h = rw (rows-done i h) (omega arith)
+  pub rows_sized : (k : ℕ) (places : List ℕ) → sum (map span_row_length (span_rows j origin cs k (parts_in s places))) ≡ sum_by (λ at. span_size cs (parts_of (drop at s))) places
+  unfolding parts_in span_rows span_row span_size
+  rows_sized k [] = refl
+  rows_sized k (at ∷ places) =
+      rw sum_by-cons (go (eqb (read_at at).span.font no_font) _ _ (rows_sized (k + 1) places))
+    where
+      go : (b : Bool) (rest : List SpanRow) (row : SpanRow) {n : ℕ} → sum (map span_row_length rest) ≡ n → sum (map span_row_length (cond b rest (row ∷ rest))) ≡ cond (not b) (span_row_length row) 0 + n
+      go true rest row e = omega arith
+      go false rest row e = omega arith
+
+size-few : (cs : List Cluster) (p : SpanParts) → span_size cs p ≤ span_row_size (length cs)
+unfolding span_size
+size-few cs p = go (has_row p)
+  where
+    go : (b : Bool) → cond b (span_row_size (length (collect_decoration_spans p.span cs))) 0 ≤ span_row_size (length cs)
+    go true = omega (arith, runs-few p.span cs)
+    go false = omega arith
+
+pub rows_few : (cs : List Cluster) (s places : List ℕ) → sum_by (λ at. span_size cs (parts_of (drop at s))) places ≤ length places * span_row_size (length cs)
+rows_few cs s [] = omega arith
+rows_few cs s (at ∷ places) = rw sum_by-cons (omega (arith, size-few cs (parts_of (drop at s)), rows_few cs s places))
+
+-- ---- the rows of the spans from place i on are still to be put
+
+module _ (j : Job) (origin : Point) (cs : List Cluster) (s places : List ℕ) where
+  abbrev all_rows : List SpanRow
+  all_rows = span_rows j origin cs 0 (parts_in s places)
+
+  abbrev pub SpansLeft : List ℕ → ℕ → List ℕ → ℕ → ℕ → Type 0
+  SpansLeft old at out here i = Putting old at (flat_map span_row_bytes all_rows) out here (flat_map span_row_bytes (rows_from j origin cs s places i))
+
+  pub spans-start : {old : List ℕ} {at : ℕ} → at + sum (map span_row_length all_rows) ≤ length old → SpansLeft old at old at 0
+  spans-start h = put-start (omega (arith, length-rows all_rows))
+
+  module _ {old : List ℕ} {at : ℕ} {out : List ℕ} {here : ℕ} (i : ℕ) (left : SpansLeft old at out here i) where
+    module _ (place : ℕ) (e : place ≡ get_or places i 0) (h : i < length places) where
+      abbrev rows_here : List SpanRow
+      rows_here = span_rows j origin cs i (parts_of (drop place s) ∷ [])
+
+      next : flat_map span_row_bytes (rows_from j origin cs s places i) ≡ flat_map span_row_bytes rows_here ++ flat_map span_row_bytes (rows_from j origin cs s places (i + 1))
+      next = rw e (bytes-turn j origin cs s places i h)
+
+      pub spans-room : here + sum (map span_row_length rows_here) ≤ length out
+      spans-room = omega (arith, length-rows rows_here, put-room left (flat_map span_row_bytes rows_here) (flat_map span_row_bytes (rows_from j origin cs s places (i + 1))) next)
+
+      pub spans-turn : {out' : List ℕ} {here' : ℕ} → (here' ≡ here + sum (map span_row_length rows_here)) × (out' ≡ splice out here (flat_map span_row_bytes rows_here)) → SpansLeft old at out' here' (i + 1)
+      spans-turn put = put-turn left (flat_map span_row_bytes rows_here) (flat_map span_row_bytes (rows_from j origin cs s places (i + 1))) next put.1 (omega (arith, put.0, length-rows rows_here))
+
+    pub spans-done : length places ≤ i → (here ≡ at + sum (map span_row_length all_rows)) × (out ≡ splice old at (flat_map span_row_bytes all_rows))
+    spans-done h =
+        let all = put-done left (bytes-done j origin cs s places i h) in
+        (omega (arith, all.1, length-rows all_rows), all.0)

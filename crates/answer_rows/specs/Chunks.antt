@@ -1,5 +1,5 @@
 -- A chunk's row, and what stands in it before the rows of its clusters. Definitions only.
-use Rattle.std.specs.Prelude.{ℕ, ◌+◌, ◌*◌, ◌≤◌, ◌≡◌, true, cond, List, [], ◌++◌, map, leb, Float, length}
+use Rattle.std.specs.Prelude.{ℕ, ◌+◌, ◌*◌, ◌≤◌, ◌≡◌, true, cond, List, [], ◌++◌, map, leb, length}
 use Rattle.spec.specs.declared.Point.{Point}
 use Rattle.spec.specs.declared.Glyph.{Glyph}
 use Rattle.spec.specs.declared.Cluster.{Cluster}
@@ -10,7 +10,6 @@ use Rattle.spec.specs.Answer.{ChunkRow, chunk_head_size, glyph_row_size, run_siz
 use Rattle.spec.specs.Layout.{cluster_row, span_rows}
 use Rattle.wire.specs.Splice.{splice}
 use Rattle.job_rows.specs.Rows.{glyphs_at, parts_in, job_at}
-use Rattle.decoration.specs.Runs.{Tables, all_clusters}
 use Rattle.answer_rows.specs.Glyphs.{units_in}
 use Rattle.answer_rows.specs.declared.chunk.Frame.{Frame}
 
@@ -37,15 +36,15 @@ chunk_row_max spans count n = chunk_head_size + (cluster_row_size 0 + run_size) 
 
 -- ---- a row from what the code lends: the record s, and of it the job, the spans and the merged glyphs by their places
 
-abbrev pub row_at : List ℕ → Job → List ℕ → List ℕ → Frame → List (List Float) → List (List ℕ) → ChunkRow
-row_at s job spans merged frame floats words =
-    chunk_row (job_at s job) frame.origin frame.pen (glyphs_at s merged) (all_clusters floats words) (parts_in s spans)
+abbrev pub row_at : List ℕ → Job → List ℕ → List ℕ → Frame → List Cluster → ChunkRow
+row_at s job spans merged frame cs =
+    chunk_row (job_at s job) frame.origin frame.pen (glyphs_at s merged) cs (parts_in s spans)
 
 -- no count overflows, and the glyphs' numbers are in range
-pub record Writable (s spans merged : List ℕ) (floats : List (List Float)) (words : List (List ℕ)) : Type 0 where
+pub record Writable (s spans merged : List ℕ) (cs : List Cluster) : Type 0 where
   pub few_spans : length spans ≤ 255
   pub few_glyphs : length merged ≤ 65_536
-  pub tables : Tables floats words
+  pub few_clusters : length cs ≤ 65_535
   pub units : units_in (glyphs_at s merged) ≡ true
 
 -- the buffer with the bytes at `at`, if they end within it; else as it was

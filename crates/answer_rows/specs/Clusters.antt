@@ -1,11 +1,15 @@
 -- A cluster row before its glyphs, and how many bytes the rows of clusters have. Definitions only.
-use Rattle.std.specs.Prelude.{ℕ, ◌-◌, min}
-use mathlib.Core.List.{List, ◌++◌, map, flat_map}
+use Rattle.std.specs.Prelude.{ℕ, ◌-◌, min, Float}
+use mathlib.Core.List.{List, [], ◌∷◌, ◌++◌, map, flat_map}
 use Rattle.spec.specs.declared.Cluster.{Cluster}
 use Rattle.spec.specs.Bytes.{bytes, float_bytes}
 use Rattle.spec.specs.Answer.{sum, cluster_row_size}
 use Rattle.spec.specs.Layout.{flags_of}
-use Rattle.cluster_table.specs.Clusters.{floats_of}
+
+-- a cluster's floats, as they are written
+abbrev pub floats_of : Cluster → List Float
+floats_of c =
+    c.width ∷ c.advance ∷ c.spacing ∷ c.ascent ∷ c.descent ∷ c.nudge ∷ c.scale ∷ c.x ∷ c.y ∷ c.angle ∷ []
 
 -- the row of a cluster with so many glyphs, up to them
 unfoldable pub cluster_head_bytes : ℕ → Cluster → ℕ → List ℕ

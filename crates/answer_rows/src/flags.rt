@@ -33,8 +33,8 @@ fn turn_flag(mode: u8, upright: bool) -> u8
     if upright { UPRIGHT } else { SIDEWAYS }
 }
 
-pub fn flags_of(mode: u8, c: Cluster) -> u8
-    ensures { result ≡ flags_of mode c }
+pub fn flags_of(mode: u8, c: &Cluster) -> u8
+    ensures { result ≡ flags_of mode c.now }
 {
     flag(c.relative, RELATIVE)
         + turn_flag(mode, c.upright)

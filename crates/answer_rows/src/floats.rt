@@ -12,10 +12,8 @@ pub fn put_floats(out: &mut [u8], at: usize, values: &[f32])
     ensures { out.new ≡ splice out.old at (flat_map float_bytes values.now) }
 {
     let mut here = at;
-    let mut i: usize = 0;
-    while i < values.len() {
-        put_f32(out, here, values[i]);
+    for value in values {
+        put_f32(out, here, *value);
         here += FLOAT_BYTES;
-        i += 1;
     }
 }

@@ -13,7 +13,6 @@ ghost use Rattle.wire.specs.Splice.{splice};
 ghost use Rattle.answer_rows.specs.Glyphs.{glyph_row, units_of, units_in};
 
 use answer_format::{GLYPH_FONT_AT, GLYPH_ROW_BYTES, GLYPH_X_AT, GLYPH_Y_AT};
-use clustering::runs::place_in;
 use job_rows::rows::{glyph_at, glyph_of};
 use job_rows::sizes::GLYPH_BYTES;
 use spec::Glyph;
@@ -24,15 +23,8 @@ use wire::write::{put_f32, put_u8, put_u32};
 pub fn glyph_places(rows: &[u32], from: usize, count: usize) -> &[u32]
     ensures { result.now ≡ take count (drop from rows.now) }
 {
-    if rows.len() < from {
-        let end = rows.len();
-        return &rows[end..];
-    }
-    let rest = &rows[from..];
-    if count <= rest.len() {
-        return &rest[..count];
-    }
-    rest
+    let rest = &rows[from.min(rows.len())..];
+    &rest[..count.min(rest.len())]
 }
 
 // Font units as a float: a cast is taken only of a whole number that is a float.
@@ -51,23 +43,16 @@ fn units_negated(z: i32) -> f32
     (0 - z) as f32
 }
 
-// The row of a glyph before which the widths add up to `x`.
-pub fn put_glyph(out: &mut [u8], at: usize, glyph: Glyph, x: f32)
-    requires { (at + glyph_row_size ≤ length out.old) × (units_ok glyph.dx ≡ true) × (units_ok glyph.dy ≡ true) }
-    ensures { out.new ≡ splice out.old at (glyph_row_bytes (glyph_row x glyph)) }
+// The row of a glyph before which the widths add up to `x`; the result is what they add up to with this glyph's.
+fn put_glyph(out: &mut [u8], at: usize, glyph: Glyph, x: f32) -> f32
+    requires { (at + glyph_row_size ≤ length out.old) × (units_of glyph ≡ true) }
+    ensures { (out.new ≡ splice out.old at (glyph_row_bytes (glyph_row x glyph)))
+        × (result ≡ x +ᶠ of_int binary32 glyph.width) }
 {
     put_u32(out, at, glyph.id);
     put_u8(out, at + GLYPH_FONT_AT, glyph.font);
     put_f32(out, at + GLYPH_X_AT, x + units(glyph.dx));
     put_f32(out, at + GLYPH_Y_AT, units_negated(glyph.dy));
-}
-
-// As `put_glyph`; the result is what the widths add up to with this glyph's.
-fn put_next(out: &mut [u8], at: usize, glyph: Glyph, x: f32) -> f32
-    requires { (at + glyph_row_size ≤ length out.old) × (units_of glyph ≡ true) }
-    ensures { (out.new ≡ splice out.old at (glyph_row_bytes (glyph_row x glyph))) × (result ≡ x +ᶠ of_int binary32 glyph.width) }
-{
-    put_glyph(out, at, glyph, x);
     x + units(glyph.width)
 }
 
@@ -78,10 +63,12 @@ fn put_glyph_at(out: &mut [u8], at: usize, s: &[u8], place: usize, x: f32) -> f3
         × (result ≡ x +ᶠ of_int binary32 (glyph_of (drop place s.now)).width) }
 {
     let row = tail(s, place);
-    if GLYPH_BYTES <= row.len() {
-        return put_next(out, at, glyph_of(row), x);
-    }
-    put_next(out, at, glyph_at(s, place), x)
+    let glyph = if GLYPH_BYTES <= row.len() {
+        glyph_of(row)
+    } else {
+        glyph_at(s, place)
+    };
+    put_glyph(out, at, glyph, x)
 }
 
 // The rows of the glyphs at `places` in the record `s`; the result is the place behind them.
@@ -94,11 +81,9 @@ pub fn put_glyphs(out: &mut [u8], at: usize, s: &[u8], places: &[u32]) -> usize
 {
     let mut x: f32 = 0.0;
     let mut here = at;
-    let mut i: usize = 0;
-    while i < places.len() {
-        x = put_glyph_at(out, here, s, place_in(places, i), x);
+    for place in places {
+        x = put_glyph_at(out, here, s, *place as usize, x);
         here += GLYPH_ROW_BYTES;
-        i += 1;
     }
     here
 }

@@ -9,8 +9,7 @@ ghost use Rattle.spec.specs.Answer.{span_row_size, span_row_bytes, span_row_leng
 ghost use Rattle.spec.specs.Layout.{span_row, span_rows};
 ghost use Rattle.wire.specs.Splice.{splice};
 ghost use Rattle.job_rows.specs.Rows.{job_at};
-ghost use Rattle.decoration.specs.Runs.{Tables, all_clusters};
-ghost use Rattle.answer_rows.specs.Spans.{row_floats, span_head_bytes, has_row};
+ghost use Rattle.answer_rows.specs.Spans.{row_floats, span_head_bytes, has_row, span_size};
 
 use crate::floats::put_floats;
 use answer_format::{RUN_BYTES, RUN_COUNT_AT, RUN_COUNT_BYTES, RUNS_AT, SPAN_FLOATS_AT};
@@ -20,7 +19,7 @@ use decoration::{collect_decoration_spans, count_runs};
 use job_rows::numbered::font_in;
 use job_rows::rows::span_at;
 use job_rows::sizes::SPAN_FONT_AT;
-use spec::{Job, Point, Span};
+use spec::{Cluster, Job, Point, Span};
 use wire::read::u8_at;
 use wire::slice::tail;
 use wire::write::{put_number, put_u8};
@@ -56,6 +55,7 @@ fn put_span_head(out: &mut [u8], at: usize, k: u8, values: &[f32; 7], runs: usiz
 }
 
 // The row of the span at `place`, whose index is `k`; the place behind it.
+#[tactic(auto, using(crate::proofs::SpanRows::run_count))]
 fn put_span_row(
     out: &mut [u8],
     at: usize,
@@ -64,56 +64,46 @@ fn put_span_row(
     place: usize,
     k: u8,
     origin: Point,
-    floats: &[[f32; 10]],
-    words: &[[u32; 6]],
+    clusters: &[Cluster],
 ) -> usize
-    requires { Tables floats.now words.now
-        × (at + span_row_length (span_row (job_at s.now job) origin (all_clusters floats.now words.now) k (parts_of (drop place s.now)))
+    requires { (length clusters.now ≤ 65_535)
+        × (at + span_row_length (span_row (job_at s.now job) origin clusters.now k (parts_of (drop place s.now)))
         ≤ length out.old) }
-    ensures { let row = span_row (job_at s.now job) origin (all_clusters floats.now words.now) k
+    ensures { let row = span_row (job_at s.now job) origin clusters.now k
         (parts_of (drop place s.now)) in
         (result ≡ at + span_row_length row) × (out.new ≡ splice out.old at (span_row_bytes row)) }
 {
     let span = span_at(s, place);
     let values = span_row_floats(s, job, place, span, origin);
     let runs_at = at + RUNS_AT;
-    let runs = collect_decoration_spans(out, runs_at, span, floats, words);
+    let runs = collect_decoration_spans(out, runs_at, span, clusters);
     put_span_head(out, at, k, &values, runs);
     runs_at + runs * RUN_BYTES
 }
 
 // ---- the rows of one span: a row, or none
 
-fn has_row(s: &[u8], place: usize) -> bool
+pub fn has_row(s: &[u8], place: usize) -> bool
     ensures { result ≡ has_row (parts_of (drop place s.now)) }
 {
     u8_at(tail(s, place), SPAN_FONT_AT) != Span::NO_FONT
 }
 
-// How many rows.
-pub fn span_count(s: &[u8], place: usize) -> usize
-    ensures { (result ≤ 1) × ((job : definitions.Job) (origin : Point) (cs : List Cluster) (k : ℕ)
-        → result ≡ length (span_rows job origin cs k (parts_of (drop place s.now) ∷ []))) }
-{
-    if has_row(s, place) {
-        return 1;
-    }
-    0
-}
-
 // How many bytes.
-pub fn span_length(s: &[u8], place: usize, floats: &[[f32; 10]], words: &[[u32; 6]]) -> usize
-    requires { Tables floats.now words.now }
-    ensures { (result ≤ span_row_size (length words.now)) × ((job : definitions.Job) (origin : Point) (k : ℕ)
-        → result ≡ sum (map span_row_length (span_rows job origin (all_clusters floats.now words.now) k (parts_of (drop place s.now) ∷ [])))) }
+#[tactic(auto, unfolding(crate::specs::Spans::span_size))]
+pub fn span_length(s: &[u8], place: usize, clusters: &[Cluster]) -> usize
+    requires { length clusters.now ≤ 65_535 }
+    ensures { (result ≡ span_size clusters.now (parts_of (drop place s.now)))
+        × (result ≤ span_row_size (length clusters.now)) }
 {
     if has_row(s, place) {
-        return RUNS_AT + count_runs(span_at(s, place), floats, words) * RUN_BYTES;
+        return RUNS_AT + count_runs(span_at(s, place), clusters) * RUN_BYTES;
     }
     0
 }
 
 // They are put, and the place behind them is given; `k` is the span's index.
+#[tactic(auto, using(crate::proofs::SpanRows::one_sum, crate::proofs::SpanRows::no_sum))]
 pub fn put_span(
     out: &mut [u8],
     at: usize,
@@ -122,18 +112,17 @@ pub fn put_span(
     place: usize,
     k: u8,
     origin: Point,
-    floats: &[[f32; 10]],
-    words: &[[u32; 6]],
+    clusters: &[Cluster],
 ) -> usize
-    requires { Tables floats.now words.now
-        × (at + sum (map span_row_length (span_rows (job_at s.now job) origin (all_clusters floats.now words.now) k (parts_of (drop place s.now) ∷ [])))
+    requires { (length clusters.now ≤ 65_535)
+        × (at + sum (map span_row_length (span_rows (job_at s.now job) origin clusters.now k (parts_of (drop place s.now) ∷ [])))
         ≤ length out.old) }
-    ensures { let rows = span_rows (job_at s.now job) origin (all_clusters floats.now words.now) k
+    ensures { let rows = span_rows (job_at s.now job) origin clusters.now k
         (parts_of (drop place s.now) ∷ []) in
         (result ≡ at + sum (map span_row_length rows)) × (out.new ≡ splice out.old at (flat_map span_row_bytes rows)) }
 {
     if has_row(s, place) {
-        return put_span_row(out, at, s, job, place, k, origin, floats, words);
+        return put_span_row(out, at, s, job, place, k, origin, clusters);
     }
     at
 }

@@ -30,14 +30,15 @@ fn chosen_offset(wanted: bool, mode: u8, across: f32, down: f32) -> f32
     ensures { result ≡ cond wanted (cond (eqb mode left_to_right) across down) +0 }
 {
     if !wanted {
-        return 0.0;
+        0.0
+    } else if mode == LEFT_TO_RIGHT {
+        across
+    } else {
+        down
     }
-    if mode == LEFT_TO_RIGHT {
-        return across;
-    }
-    down
 }
 
+#[tactic(auto, unfolding(spec::specs::Decoration::under_offset))]
 pub fn under_offset(mode: u8, font: Font, span: Span) -> f32
     ensures { result ≡ under_offset mode font span }
 {
@@ -46,6 +47,7 @@ pub fn under_offset(mode: u8, font: Font, span: Span) -> f32
     chosen_offset(wants(span, UNDER), mode, across, down)
 }
 
+#[tactic(auto, unfolding(spec::specs::Decoration::over_offset))]
 pub fn over_offset(mode: u8, font: Font, span: Span) -> f32
     ensures { result ≡ over_offset mode font span }
 {
@@ -54,6 +56,7 @@ pub fn over_offset(mode: u8, font: Font, span: Span) -> f32
     chosen_offset(wants(span, OVER), mode, across, down)
 }
 
+#[tactic(auto, unfolding(spec::specs::Decoration::through_offset))]
 pub fn through_offset(mode: u8, font: Font, span: Span) -> f32
     ensures { result ≡ through_offset mode font span }
 {
@@ -61,6 +64,7 @@ pub fn through_offset(mode: u8, font: Font, span: Span) -> f32
     chosen_offset(wants(span, THROUGH), mode, across, 0.0)
 }
 
+#[tactic(auto, unfolding(spec::specs::Decoration::thickness_of))]
 pub fn thickness(font: Font, span: Span) -> f32
     ensures { result ≡ thickness_of font span }
 {

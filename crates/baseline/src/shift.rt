@@ -10,6 +10,7 @@ use job_rows::sizes::SHIFT_BYTES;
 use spec::{BaselineShift, Font};
 use wire::slice::tail;
 
+#[tactic(auto, unfolding(spec::specs::Baseline::baseline_shift_of))]
 pub fn baseline_shift_at(s: &[u8], at: usize) -> BaselineShift
     ensures { result ≡ baseline_shift_of (shift_of (drop at s.now)) }
 {
@@ -21,6 +22,7 @@ pub fn baseline_shift_at(s: &[u8], at: usize) -> BaselineShift
     }
 }
 
+#[tactic(auto, unfolding(spec::specs::Baseline::add_baseline_shift))]
 pub fn add_baseline_shift(font: Font, size: f32, shift: BaselineShift, sum: f32) -> f32
     ensures { result ≡ add_baseline_shift font size shift sum }
 {
@@ -39,9 +41,7 @@ pub fn resolve_baseline_shift(s: &[u8], at: usize, n: usize, font: Font, size: f
 {
     let shifts = tail(s, at);
     let mut sum: f32 = 0.0;
-    let mut k = n;
-    while 0 < k {
-        k -= 1;
+    for k in (0..n).rev() {
         sum = add_baseline_shift(font, size, baseline_shift_at(shifts, k * SHIFT_BYTES), sum);
     }
     sum

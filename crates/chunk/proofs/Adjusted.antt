@@ -3,8 +3,8 @@ use Prim.Native.Nat.{ℕ, ◌≤◌}
 use mathlib.Core.Path.{◌≡◌, refl, sym, ap, ◌∙◌}
 use mathlib.Core.Bool.{Bool, false}
 use mathlib.Core.List.{List, map}
+use native.Mathlib.Omega.{arith}
 use lib.ListN as list_n
-use lib.Ieee.{Float}
 use Rattle.spec_laws.proofs.All.{fold-skips}
 use Rattle.spec.specs.Outcome.{Outcome, refused, given}
 use Rattle.spec.specs.Lists.{any}
@@ -20,11 +20,14 @@ use Rattle.spec.specs.WritingMode.{apply_writing_mode}
 use Rattle.spec.specs.LengthAdjust.{adjust_span, apply_length_adjust}
 use Rattle.spec.specs.Layout.{letter_spaced_clusters, adjusted_clusters}
 use Rattle.job_rows.specs.Rows.{fonts_in, spans_in, glyphs_at}
-use Rattle.cluster_table.specs.Clusters.{clusters_of, indexes_in}
-use Rattle.cluster_table.proofs.Rows.{clusters-indexes}
-use Rattle.spacing.proofs.Keeps.{letter-indexes}
-use Rattle.length_adjust.specs.declared.Adjusted.{Adjusted}
-use Rattle.length_adjust.specs.declared.Adjusted.TheVariants.{Done, Refused}
+use Rattle.spacing.proofs.Keeps.{writing-indexes, letter-indexes, word-indexes}
+use Rattle.clustering.specs.Groups.{FormedInto}
+use Rattle.text_order.specs.Ordered.{Sortable}
+use Rattle.text_order.proofs.Keys.{indexes-length}
+use Rattle.std.specs.Prelude.{Ok, Err}
+use Rattle.std.specs.declared.result.Result.{Result}
+use Rattle.spec.specs.declared.Refusal.{Refusal}
+use Rattle.spec.specs.Refusal.{refusal_number}
 use Rattle.length_adjust.specs.Answer.{adjusted_of}
 use Rattle.length_adjust.proofs.Kept.{adjusted-order}
 use Rattle.chunk.specs.declared.progress.NextChunk.{NextChunk}
@@ -44,36 +47,49 @@ module _ {s : List ℕ} {next : NextChunk} {spans text : List ℕ} (merged : Lis
   unfolding adjusted_clusters letter_spaced_clusters
   adjusted-is e₂ e₃ e₄ e₅ = rw (e₅, e₄, e₃, e₂, text-is, spans-are p) refl
 
--- ---- the byte indexes are kept
+-- ---- the clusters that step 6 is given: as many as were formed, with their byte indexes
 
--- by letter spacing
-pub letter-rows : (floats floats' : List (List Float)) (words words' : List (List ℕ)) (n : ℕ) (spans : List Span)
-    → n ≤ list_n.length floats → n ≤ list_n.length words → n ≤ list_n.length floats' → n ≤ list_n.length words'
-    → clusters_of floats' words' n ≡ apply_letter_spacing rounded spans (clusters_of floats words n) → indexes_in words' n ≡ indexes_in words n
-letter-rows floats floats' words words' n spans p q p' q' e =
-    sym (clusters-indexes floats' words' n p' q') ∙ ap (indexes rounded) e
-    ∙ letter-indexes spans (clusters_of floats words n) ∙ clusters-indexes floats words n p q
+module _ {s : List ℕ} {next : NextChunk} {spans text : List ℕ} (glyphs : List ℕ) (p : SpannedChunk s next spans) (text-is : text ≡ (chunk_in s next).text)
+    {table turned spaced worded : List Cluster} {n : ℕ} (formed : FormedInto s next.job.fonts spans glyphs table n)
+    (turned-is : turned ≡ apply_writing_mode next.job.mode (list_n.take n table)) (spaced-is : spaced ≡ apply_letter_spacing rounded (spans_in s spans) turned)
+    (worded-is : worded ≡ apply_word_spacing rounded text (spans_in s spans) spaced) where
+  indexes-kept : indexes rounded worded ≡ indexes rounded (list_n.take n table)
+  indexes-kept =
+      ap (indexes rounded) worded-is ∙ word-indexes text (spans_in s spans) spaced ∙ ap (indexes rounded) spaced-is
+      ∙ letter-indexes (spans_in s spans) turned ∙ ap (indexes rounded) turned-is ∙ writing-indexes next.job.mode (list_n.take n table)
 
--- by step 6, where it is done
-pub done-kept : (floats floats' : List (List Float)) (words words' : List (List ℕ)) (n : ℕ)
-    → n ≤ list_n.length floats → n ≤ list_n.length words → n ≤ list_n.length floats' → n ≤ list_n.length words'
-    → (spans : List Span) (r : Adjusted) → r ≡ Done → adjusted_of r (clusters_of floats' words' n) ≡ apply_length_adjust spans (clusters_of floats words n)
-    → indexes_in words' n ≡ indexes_in words n
+  pub worded-length : list_n.length worded ≡ n
+  worded-length =
+      sym (indexes-length worded) ∙ ap list_n.length indexes-kept ∙ indexes-length (list_n.take n table)
+      ∙ ap list_n.length formed.clusters ∙ list_n.length-map _ _ ∙ sym formed.count
+
+  pub worded-sortable : {order : List ℕ} → n ≤ list_n.length order → n ≤ 1024 → Sortable order worded
+  worded-sortable h few =
+      record { count = omega (arith, worded-length); few = omega (arith, worded-length); indexes = rw indexes-kept formed.indexes }
+
+  -- what step 6 makes of them is what the definitions make of the merged glyphs
+  pub adjusted-whole : (r : Result (Unit {0}) Refusal) (cs : List Cluster) → adjusted_of r cs ≡ apply_length_adjust (spans_in s spans) worded
+      → adjusted_of r cs ≡ adjusted_clusters (job_in s next) (chunk_in s next) (glyphs_at s glyphs)
+  adjusted-whole r cs e = e ∙ adjusted-is glyphs p text-is formed.clusters turned-is spaced-is worded-is
+
+-- step 6 keeps them too, where it is done
+pub done-kept : (spans : List Span) (cs ds : List Cluster) {r : Result (Unit {0}) Refusal} {u : Unit {0}} → r ≡ Ok u → adjusted_of r ds ≡ apply_length_adjust spans cs
+    → indexes rounded ds ≡ indexes rounded cs
 unfolding adjusted_of
-done-kept floats floats' words words' n p q p' q' spans r e is = adjusted-order floats words floats' words' n p q p' q' spans (rw e at is)
+done-kept spans cs ds e is = adjusted-order spans cs ds (rw e at is)
 
 -- ---- what step 6 answers
 
 -- where no span has a text length it leaves the clusters as they are
-pub unadjusted : {b : Bool} (spans : List Span) (cs : List Cluster) → b ≡ any has_length spans → b ≡ false → adjusted_of Done cs ≡ apply_length_adjust spans cs
+pub unadjusted : {b : Bool} (spans : List Span) (cs : List Cluster) → b ≡ any has_length spans → b ≡ false → adjusted_of (Ok tt) cs ≡ apply_length_adjust spans cs
 unfolding adjusted_of apply_length_adjust adjust_span
 unadjusted spans cs told none = sym (fold-skips has_length adjust_span (given cs) (λ s e. rw e) spans (sym told ∙ none))
 
-module _ (r : Adjusted) (cs : List Cluster) {o : Outcome (List Cluster)} (is : adjusted_of r cs ≡ o) where
-  pub done-given : r ≡ Done → o ≡ given cs
+module _ (r : Result (Unit {0}) Refusal) (cs : List Cluster) {o : Outcome (List Cluster)} (is : adjusted_of r cs ≡ o) where
+  pub done-given : {u : Unit {0}} → r ≡ Ok u → o ≡ given cs
   unfolding adjusted_of
   done-given e = sym (rw e at is)
 
-  pub told-refused : {k : ℕ} → r ≡ Refused k → o ≡ refused k
+  pub told-refused : {e : Refusal} → r ≡ Err e → o ≡ refused (refusal_number e)
   unfolding adjusted_of
   told-refused e = sym (rw e at is)

@@ -12,15 +12,15 @@ use Rattle.spec.specs.Job.{SpanParts, limits}
 use Rattle.spec.specs.Merge.{merge_glyphs}
 use Rattle.spec.specs.Layout.{layout_chunk}
 use Rattle.job_rows.specs.Rows.{parts_in, glyphs_in}
-use Rattle.merge.specs.declared.Merge.{Merge}
-use Rattle.merge.specs.declared.Merge.TheVariants as M
-use Rattle.merge.specs.Merged.{merged_of, CountOk, FewGlyphs}
+use Rattle.std.specs.Prelude.{Ok, Err, IfOk}
+use Rattle.std.specs.declared.result.Result.{Result}
+use Rattle.spec.specs.declared.Refusal.{Refusal}
+use Rattle.merge.specs.Merged.{merged_of, FewGlyphs}
 use Rattle.spec_laws.proofs.Search.{find-le}
 use Rattle.merge.specs.Source.{has_glyphs, glyph_span, span_glyphs}
 use Rattle.merge.proofs.Alone.{parts-length, alone-merged}
 use Rattle.chunk.specs.declared.progress.NextChunk.{NextChunk}
-use Rattle.chunk.specs.declared.progress.ChunkResult.{ChunkResult}
-use Rattle.chunk.specs.declared.progress.ChunkResult.TheVariants.{Refused}
+use Rattle.chunk.specs.declared.progress.Progress.{Progress}
 use Rattle.chunk.specs.Checked.{SpannedChunk, OwnMerged, MergedChunk}
 use Rattle.chunk.specs.Steps.{chunk_outcome, result_of, buffer_after_chunks, merged_outcome, ChunkWritten}
 
@@ -55,19 +55,19 @@ module _ {s : List ℕ} {next : NextChunk} {spans : List ℕ} (p : SpannedChunk 
   own-merged own e rows many is = record { spanned = p; few = rw length-take (omega (arith, many, own-few own)); glyphs = e ∙ ap given (sym is) }
 
   -- the rows that the merge left, where it gave glyphs
-  pub list-merged : (rows : List ℕ) {r : Merge} {n : ℕ} → r ≡ M.Merged n → (length rows ≡ 1024) × CountOk r × (merged_of r s rows ≡ merge_glyphs (parts_in s spans))
+  pub list-merged : (rows : List ℕ) {r : Result ℕ Refusal} {n : ℕ} → r ≡ Ok n → IfOk r (λ n. n ≤ limits.merged) × (merged_of r s rows ≡ merge_glyphs (parts_in s spans))
       → MergedChunk s next spans (take n rows)
   unfolding merged_of glyphs_in
-  list-merged rows is h = record { spanned = p; few = rw length-take (omega (arith, rw is at h.1)); glyphs = sym (rw is at h.2) }
+  list-merged rows is h = record { spanned = p; few = rw length-take (omega (arith, rw is at h.0)); glyphs = sym (rw is at h.1) }
 
   -- a refused merge refuses the chunk
-  pub refused-laid : (rows : List ℕ) {r : Merge} {k : ℕ} → r ≡ M.Refused k → merged_of r s rows ≡ merge_glyphs (parts_in s spans) → {old new : List ℕ} → new ≡ old
-      → ChunkWritten next.before (Refused k) old new (chunk_outcome s next)
+  pub refused-laid : (rows : List ℕ) {r : Result ℕ Refusal} {k : Refusal} → r ≡ Err k → merged_of r s rows ≡ merge_glyphs (parts_in s spans) → {old new : List ℕ} → new ≡ old
+      → ChunkWritten next.before (Err k) old new (chunk_outcome s next)
   unfolding merged_of layout_chunk and_then result_of buffer_after_chunks
   refused-laid rows is e kept = rw (ap merge_glyphs (sym p.parts) ∙ sym (rw is at e)) (record { laid = refl; buffer = kept })
 
 -- behind a merge that gave glyphs the chunk is laid out as they are
-pub merged-laid : {s : List ℕ} {next : NextChunk} {spans merged old new : List ℕ} {r : ChunkResult} → MergedChunk s next spans merged
+pub merged-laid : {s : List ℕ} {next : NextChunk} {spans merged old new : List ℕ} {r : Result Progress Refusal} → MergedChunk s next spans merged
     → ChunkWritten next.before r old new (merged_outcome s next merged) → ChunkWritten next.before r old new (chunk_outcome s next)
 unfolding layout_chunk merged_outcome and_then
 merged-laid m h = rw (ap merge_glyphs (sym m.spanned.parts) ∙ m.glyphs) h

@@ -1,8 +1,9 @@
 -- A chunk that is placed is one row: the progress stands behind it, and the row's bytes are put. Assumes nothing.
 use Prim.Native.Nat.{ℕ, ◌+◌, ◌<◌}
 use mathlib.Core.Path.{◌≡◌, refl, sym, ap, ◌∙◌}
-use mathlib.Core.List.{List, [], ◌∷◌, map, flat_map, zip_with, append-nil}
+use mathlib.Core.List.{List, [], ◌∷◌, map, flat_map, append-nil}
 use native.Mathlib.Nat.{not-suc-le-zero}
+use native.Mathlib.Omega.{arith}
 use lib.ListN.{length, drop}
 use lib.Ieee.{Float}
 use Rattle.spec.specs.Outcome.{given, refused, and_then}
@@ -17,13 +18,14 @@ use Rattle.spec.specs.Layout as layout
 use Rattle.spec.specs.Layout.{rows_of, cluster_row, span_rows, origin_of, pen_after, adjusted_clusters, place_chunk, resolve_clusters_positions_horizontal}
 use Rattle.job_rows.specs.Head.{head_of}
 use Rattle.job_rows.specs.Rows.{parts_in, glyphs_at}
-use Rattle.cluster_table.specs.Clusters.{clusters_of}
 use Rattle.position.specs.declared.Positioned.{Positioned}
 use Rattle.position.specs.Given.{Placed}
 use Rattle.answer_rows.specs.Chunks.{chunk_row, empty_row, splice_if_fits, RowWritten}
 use Rattle.chunk.specs.declared.progress.Progress.{Progress}
 use Rattle.chunk.specs.declared.progress.NextChunk.{NextChunk}
-use Rattle.chunk.specs.declared.progress.ChunkResult.TheVariants.{Done, Refused}
+use Rattle.std.specs.Prelude.{Ok, Err}
+use Rattle.spec.specs.declared.Refusal.{Refusal}
+use Rattle.spec.specs.Refusal.{refusal_number}
 use Rattle.chunk.specs.Checked.{SpannedChunk}
 use Rattle.chunk.specs.Steps.{chunk_in, job_in, progress_of, written_bytes, progress_after, result_of, buffer_after_chunks, merged_outcome, ChunkWritten}
 
@@ -32,10 +34,10 @@ pub anchor-is : (s : List ℕ) (next : NextChunk) → (chunk_in s next).anchor �
 unfolding chunk_of head_of
 anchor-is s next = refl
 
--- no row, no cluster
-pub none_of : (floats : List (List Float)) (words : List (List ℕ)) (n : ℕ) → n ≡ 0 → clusters_of floats words n ≡ []
-unfolding clusters_of zip_with
-none_of floats words n e = rw e refl
+-- no cluster
+pub none_of : (cs : List Cluster) → length cs ≡ 0 → cs ≡ []
+none_of [] e = refl
+none_of (c ∷ cs) e = let z : ⊥ = omega arith in absurd z
 
 module _ (s : List ℕ) (next : NextChunk) (merged : List ℕ) where
   -- the chunk with its clusters placed
@@ -64,14 +66,14 @@ module _ (s : List ℕ) (next : NextChunk) (merged : List ℕ) where
         → {text : List ℕ} → text ≡ (chunk_in s next).text
         → {k : ℕ} {old new : List ℕ} → RowWritten next.before.length k old new row
         → {behind : Progress} → behind ≡ record { pen = pen; offset = next.before.offset + characters text; length = next.before.length + k; extent = extent }
-        → ChunkWritten next.before (Done behind) old new (merged_outcome s next merged)
+        → ChunkWritten next.before (Ok behind) old new (merged_outcome s next merged)
     unfolding merged_outcome and_then result_of buffer_after_chunks
     one-laid e is t {old = old} written b =
         rw (e, is)
-        (record { laid = ap Done (b ∙ rw t (one-progress written.length)); buffer = written.buffer ∙ ap (splice_if_fits old next.before.length) (sym one-bytes) })
+        (record { laid = ap given (b ∙ rw t (one-progress written.length)); buffer = written.buffer ∙ ap (splice_if_fits old next.before.length) (sym one-bytes) })
 
-  pub refused-merged : {k : ℕ} {old : List ℕ} → adjusted_clusters (job_in s next) (chunk_in s next) (glyphs_at s merged) ≡ refused k
-      → ChunkWritten next.before (Refused k) old old (merged_outcome s next merged)
+  pub refused-merged : {r : Refusal} {old : List ℕ} → adjusted_clusters (job_in s next) (chunk_in s next) (glyphs_at s merged) ≡ refused (refusal_number r)
+      → ChunkWritten next.before (Err r) old old (merged_outcome s next merged)
   unfolding merged_outcome and_then result_of buffer_after_chunks
   refused-merged e = rw e (record { laid = refl; buffer = refl })
 

@@ -1,10 +1,9 @@
 -- In a still job the clusters that are turned have one shift, and placed they are those of step 7. Assumes nothing.
-use Prim.Native.Nat.{ℕ, ◌≤◌, ◌<◌}
+use Prim.Native.Nat.{ℕ, ◌<◌}
 use mathlib.Core.Path.{◌≡◌, refl, sym, ◌∙◌}
 use mathlib.Core.Bool.{Bool, true, ◌&&◌}
 use mathlib.Core.List.{List, [], ◌∷◌}
 use lib.ListN.{length, drop, get_or}
-use lib.Ieee.{Float}
 use Rattle.spec_laws.proofs.All.{and_left, and_right}
 use Rattle.spec_laws.specs.Unmoved.{Unmoved}
 use Rattle.spec_laws.proofs.StillJob.{turned-alike, unmoved-placed}
@@ -15,10 +14,10 @@ use Rattle.spec.specs.Position.{positioned, rotate_shifts}
 use Rattle.spec.specs.Cluster.{rounded}
 use Rattle.spec.specs.Layout.{resolve_clusters_positions_horizontal}
 use Rattle.job_rows.specs.Head.{head_of}
-use Rattle.cluster_table.specs.Clusters.{cluster_of, clusters_of}
 use Rattle.position.specs.declared.Positioned.{Positioned}
 use Rattle.position.specs.Given.{EndsKnown, Placed}
 use Rattle.position.proofs.Ends.{alike-ended}
+use Rattle.text_order.proofs.Keys.{blank}
 use Rattle.chunk.specs.declared.progress.NextChunk.{NextChunk}
 use Rattle.chunk.specs.Steps.{chunk_in, job_in}
 use Rattle.chunk.specs.Placing.{is_still}
@@ -30,10 +29,9 @@ none_in [] e = refl
 none_in (x ∷ xs) e = cc
 
 -- any cluster has the shift of the first and the last
-pub still-ended : (mode : ℕ) {cs : List Cluster} {floats : List (List Float)} {words : List (List ℕ)} {n : ℕ} → All Unmoved cs
-    → clusters_of floats words n ≡ rotate_shifts rounded mode cs → 0 < n → n ≤ length floats → n ≤ length words
-    → (any : Cluster) → any ≡ cluster_of (get_or floats 0 []) (get_or words 0 []) → EndsKnown any any floats words n
-still-ended mode k e h p q any is = let alike = turned-alike mode k in alike-ended {x = +0} {y = alike.0} (rw e alike.1) h p q any is
+pub still-ended : (mode : ℕ) {cs turned : List Cluster} → All Unmoved cs → turned ≡ rotate_shifts rounded mode cs → 0 < length turned
+    → EndsKnown (get_or turned 0 blank) (get_or turned 0 blank) turned
+still-ended mode k e h = let alike = turned-alike mode k in alike-ended {x = +0} {y = alike.0} blank (rw e alike.1) h
 
 pub still_placed : (s : List ℕ) (next : NextChunk) {b : Bool} → b ≡ is_still (job_in s next) → b ≡ true
     → {cs turned placed : List Cluster} {anchor : ℕ} {r : Positioned} → All Unmoved cs → anchor ≡ (head_of (drop next.at s)).anchor

@@ -1,6 +1,7 @@
 -- What is known of a chunk as its layout goes on: what the checks have shown, where its spans stand, and what their merge has given. Definitions only.
-use Rattle.std.specs.Prelude.{ℕ, ◌*◌, ◌≤◌, ◌≡◌, List, length, take, drop, T, Float}
+use Rattle.std.specs.Prelude.{ℕ, ◌*◌, ◌≤◌, ◌≡◌, List, length, take, drop, T}
 use Rattle.spec.specs.Outcome.{given}
+use Rattle.spec.specs.declared.Cluster.{Cluster}
 use Rattle.spec.specs.Job.{limits}
 use Rattle.spec.specs.Decode.{chunk_fits, chunk_of}
 use Rattle.spec.specs.Check.{chunk_ok, spans_ok}
@@ -49,8 +50,7 @@ pub record MergedChunk (s : List ℕ) (next : NextChunk) (spans merged : List �
   pub glyphs : merge_glyphs (parts_in s spans) ≡ given (glyphs_at s merged)
 
 -- tables with rows for n clusters
-pub record TablesFor (n : ℕ) (floats : List (List Float)) (words : List (List ℕ)) (order spare : List ℕ) : Type 0 where
-  pub float_rows : n ≤ length floats
-  pub word_rows : n ≤ length words
+pub record TablesFor (n : ℕ) (clusters : List Cluster) (order spare : List ℕ) : Type 0 where
+  pub rows : n ≤ length clusters
   pub ordered : n ≤ length order
   pub spared : n ≤ length spare

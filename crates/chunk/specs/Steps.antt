@@ -11,8 +11,9 @@ use Rattle.job_rows.specs.Rows.{job_at, chunk_at, glyphs_at}
 use Rattle.answer_rows.specs.Chunks.{splice_if_fits}
 use Rattle.chunk.specs.declared.progress.Progress.{Progress}
 use Rattle.chunk.specs.declared.progress.NextChunk.{NextChunk}
-use Rattle.chunk.specs.declared.progress.ChunkResult.{ChunkResult}
-use Rattle.chunk.specs.declared.progress.ChunkResult.TheVariants.{Done, Refused}
+use Rattle.std.specs.declared.result.Result.{Result}
+use Rattle.spec.specs.declared.Refusal.{Refusal}
+use Rattle.spec.specs.Refusal.{outcome_of}
 
 -- the next chunk of the record s, and its job
 abbrev pub chunk_in : List ℕ → NextChunk → definitions.Chunk
@@ -33,9 +34,9 @@ written_bytes st = flat_map chunk_row_bytes (rows_of st.chunks)
 unfoldable pub progress_after : ℕ → layout.Progress → Progress
 progress_after n st = record { pen = st.pen; offset = st.offset; length = n + length (written_bytes st); extent = st.extent }
 
-unfoldable pub result_of : ℕ → Outcome layout.Progress → ChunkResult
-result_of n (refused k) = Refused k
-result_of n (given st) = Done (progress_after n st)
+unfoldable pub result_of : ℕ → Outcome layout.Progress → Outcome Progress
+result_of n (refused k) = refused k
+result_of n (given st) = given (progress_after n st)
 
 -- the buffer with those chunks' bytes from n on, if they end within it; a refusal leaves it as it was
 unfoldable pub buffer_after_chunks : List ℕ → ℕ → Outcome layout.Progress → List ℕ
@@ -43,8 +44,8 @@ buffer_after_chunks out n (refused k) = out
 buffer_after_chunks out n (given st) = splice_if_fits out n (written_bytes st)
 
 -- the call returned r and left the buffer as `new`, and both are those of an outcome
-pub record ChunkWritten (before : Progress) (r : ChunkResult) (old new : List ℕ) (o : Outcome layout.Progress) : Type 0 where
-  pub laid : r ≡ result_of before.length o
+pub record ChunkWritten (before : Progress) (r : Result Progress Refusal) (old new : List ℕ) (o : Outcome layout.Progress) : Type 0 where
+  pub laid : outcome_of r ≡ result_of before.length o
   pub buffer : new ≡ buffer_after_chunks old before.length o
 
 -- the chunk laid out: steps 1 to 8

@@ -3,19 +3,19 @@ ghost use Rattle.std.specs.Prelude.{◌≡◌, drop};
 ghost use Rattle.spec.specs.Lists.{any};
 ghost use Rattle.spec.specs.Decode.{span_of};
 ghost use Rattle.spec.specs.LengthAdjust.{apply_length_adjust};
-ghost use Rattle.cluster_table.specs.Clusters.{clusters_of};
 ghost use Rattle.job_rows.specs.Rows.{spans_in};
 ghost use Rattle.length_adjust.specs.Answer.{adjusted_of};
 ghost use Rattle.chunk.specs.Placing.{Unadjusted};
 ghost use Rattle.chunk.specs.Sure.{length_asked};
 
 use job_rows::sizes::{SPAN_ADJUST_AT, SPAN_FIXED_AT};
-use length_adjust::{Adjusted, apply_length_adjust};
+use length_adjust::apply_length_adjust;
+use spec::{Cluster, Refusal};
 use text_order::logical_order;
 use wire::read::u8_at;
 use wire::slice::tail;
 
-// The span at `at` has a text length, and where `stretched` is asked for, its glyphs are stretched to it.
+// The span at `at` has a text length, and where `stretched` is asked for, its glyphs are stretched to it. A flag, as in the definition.
 fn length_at(s: &[u8], at: usize, stretched: bool) -> bool
     ensures { result ≡ length_asked stretched (span_of (drop at s.now)) }
 {
@@ -31,14 +31,7 @@ fn length_at(s: &[u8], at: usize, stretched: bool) -> bool
 pub fn any_length(s: &[u8], spans: &[usize], stretched: bool) -> bool
     ensures { result ≡ any (length_asked stretched) (spans_in s.now spans.now) }
 {
-    let mut i: usize = 0;
-    while i < spans.len() {
-        if length_at(s, spans[i], stretched) {
-            return true;
-        }
-        i += 1;
-    }
-    false
+    spans.iter().any(|at| length_at(s, *at, stretched))
 }
 
 // In most chunks no span has a text length: then nothing is done, and the clusters are not put in text order. What `order` and `spare` hold before
@@ -48,18 +41,15 @@ pub fn adjust_lengths(
     spans: &[usize],
     order: &mut [u32],
     spare: &mut [u32],
-    floats: &mut [[f32; 10]],
-    words: &mut [[u32; 6]],
-    n: usize,
-) -> Adjusted
-    requires { Unadjusted spans.now order.old spare.old floats.old words.old n }
-    ensures { adjusted_of result (clusters_of floats.new words.new n)
-        ≡ apply_length_adjust (spans_in s.now spans.now) (clusters_of floats.old words.old n) }
+    clusters: &mut [Cluster],
+) -> Result<(), Refusal>
+    requires { Unadjusted spans.now order.old spare.old clusters.old }
+    ensures { adjusted_of result clusters.new ≡ apply_length_adjust (spans_in s.now spans.now) clusters.old }
 {
     if any_length(s, spans, false) {
-        logical_order(words, n, order, spare);
-        let lengths = apply_length_adjust(s, spans, order, spare, floats, words, n);
+        logical_order(clusters, order);
+        let lengths = apply_length_adjust(s, spans, order, spare, clusters);
         return lengths.adjusted;
     }
-    Adjusted::Done
+    Ok(())
 }

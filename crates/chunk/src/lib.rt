@@ -4,6 +4,7 @@
 pub mod chunk;
 mod find;
 mod lengths;
+mod merged;
 mod pen;
 mod place;
 pub mod progress;

@@ -1,19 +1,17 @@
 // Step 7 of a chunk.
 ghost use Rattle.std.specs.Prelude.{◌≡◌};
 ghost use Rattle.spec.specs.Layout.{resolve_clusters_positions_horizontal};
-ghost use Rattle.cluster_table.specs.Clusters.{clusters_of};
 ghost use Rattle.job_rows.specs.Rows.{job_at};
 ghost use Rattle.position.specs.Given.{Placed};
 ghost use Rattle.chunk.specs.Steps.{job_in, chunk_in};
 ghost use Rattle.chunk.specs.Placing.{is_still, Unplaced};
 
 use crate::progress::NextChunk;
-use cluster_table::cluster_at;
 use job_rows::rows::anchor_at;
 use position::Positioned;
 use position::line::{positioned_between, resolve_clusters_positions_horizontal};
 use position::shifts::rotate_shifts;
-use spec::Job;
+use spec::{Cluster, Job};
 use text_order::{character_numbers, logical_order};
 use wire::read::u16_at;
 
@@ -33,23 +31,21 @@ pub fn place_clusters(
     text: &[u8],
     order: &mut [u32],
     spare: &mut [u32],
-    floats: &mut [[f32; 10]],
-    words: &mut [[u32; 6]],
-    n: usize,
+    clusters: &mut [Cluster],
 ) -> Positioned
-    requires { Unplaced s.now next text.now order.old spare.old floats.old words.old n }
-    ensures { Placed (resolve_clusters_positions_horizontal (job_in s.now next) next.before.offset (chunk_in s.now next)
-        (clusters_of floats.old words.old n)) (clusters_of floats.new words.new n) result }
+    requires { Unplaced s.now next text.now order.old spare.old clusters.old }
+    ensures { Placed (resolve_clusters_positions_horizontal (job_in s.now next) next.before.offset (chunk_in s.now next) clusters.old)
+        clusters.new result }
 {
     let job = next.job;
     let before = next.before;
     let anchor = anchor_at(s, next.at);
     if is_still(s, job) {
-        rotate_shifts(job.mode, floats, words, n);
-        let any = cluster_at(floats, words, 0);
-        return positioned_between(anchor, any, any, floats, words, n);
+        rotate_shifts(job.mode, clusters);
+        let any = clusters[0];
+        return positioned_between(anchor, any, any, clusters);
     }
-    logical_order(words, n, order, spare);
-    character_numbers(text, before.offset, words, n, order, spare);
-    resolve_clusters_positions_horizontal(s, job, anchor, order, spare, floats, words, n)
+    logical_order(clusters, order);
+    character_numbers(text, before.offset, clusters, order, spare);
+    resolve_clusters_positions_horizontal(s, job, anchor, order, spare, clusters)
 }

@@ -18,10 +18,3 @@ pub struct NextChunk {
     pub at: usize,
     pub before: Progress,
 }
-
-// The progress behind a chunk, or the number that the job is refused with.
-#[derive(Clone, Copy)]
-pub enum ChunkResult {
-    Done(Progress),
-    Refused(u8),
-}

@@ -3,137 +3,32 @@
 ghost use Rattle.std.specs.Prelude.{◌≤◌};
 ghost use Rattle.clustering.specs.Groups.{clusters_in};
 ghost use Rattle.chunk.specs.Steps.{ChunkWritten, merged_outcome};
-ghost use Rattle.chunk.specs.Checked.{MergedChunk};
 
-use crate::progress::{ChunkResult, NextChunk};
+use crate::merged::Merged;
+use crate::progress::Progress;
 use crate::steps::layout_merged;
 use clustering::few::clusters_at_most;
+use spec::{Cluster, Refusal};
 
-// For at most 32 clusters.
-pub fn chunk_of_32(
-    s: &[u8],
-    next: NextChunk,
-    spans: &[usize],
-    merged: &[u32],
-    out: &mut [u8],
-) -> ChunkResult
-    requires { (clusters_in s.now spans.now merged.now ≤ 32) × MergedChunk s.now next spans.now merged.now }
-    ensures { ChunkWritten next.before result out.old out.new (merged_outcome s.now next merged.now) }
+// For at most `N` clusters. `order` and `spare` stand beside them: they hold other numbers from step to step, and there is no heap.
+pub fn chunk_of<const N: usize>(chunk: Merged, out: &mut [u8]) -> Result<Progress, Refusal>
+    requires { (N ≤ 1_024) × (clusters_in chunk.s.now chunk.spans.now chunk.glyphs.now ≤ N) }
+    ensures { ChunkWritten chunk.entry.next.before result out.old out.new
+        (merged_outcome chunk.entry.s.now chunk.entry.next chunk.entry.glyphs.now) }
 {
-    let mut floats = [[0.0; 10]; 32];
-    let mut words = [[0; 6]; 32];
-    let mut order = [0; 32];
-    let mut spare = [0; 32];
-    layout_merged(
-        s,
-        next,
-        spans,
-        merged,
-        &mut floats,
-        &mut words,
-        &mut order,
-        &mut spare,
-        out,
-    )
-}
-
-// For at most 64 clusters.
-pub fn chunk_of_64(
-    s: &[u8],
-    next: NextChunk,
-    spans: &[usize],
-    merged: &[u32],
-    out: &mut [u8],
-) -> ChunkResult
-    requires { (clusters_in s.now spans.now merged.now ≤ 64) × MergedChunk s.now next spans.now merged.now }
-    ensures { ChunkWritten next.before result out.old out.new (merged_outcome s.now next merged.now) }
-{
-    let mut floats = [[0.0; 10]; 64];
-    let mut words = [[0; 6]; 64];
-    let mut order = [0; 64];
-    let mut spare = [0; 64];
-    layout_merged(
-        s,
-        next,
-        spans,
-        merged,
-        &mut floats,
-        &mut words,
-        &mut order,
-        &mut spare,
-        out,
-    )
-}
-
-// For at most 256 clusters.
-fn chunk_of_256(
-    s: &[u8],
-    next: NextChunk,
-    spans: &[usize],
-    merged: &[u32],
-    out: &mut [u8],
-) -> ChunkResult
-    requires { (clusters_in s.now spans.now merged.now ≤ 256) × MergedChunk s.now next spans.now merged.now }
-    ensures { ChunkWritten next.before result out.old out.new (merged_outcome s.now next merged.now) }
-{
-    let mut floats = [[0.0; 10]; 256];
-    let mut words = [[0; 6]; 256];
-    let mut order = [0; 256];
-    let mut spare = [0; 256];
-    layout_merged(
-        s,
-        next,
-        spans,
-        merged,
-        &mut floats,
-        &mut words,
-        &mut order,
-        &mut spare,
-        out,
-    )
-}
-
-// For at most 1,024 clusters.
-fn chunk_of_1024(
-    s: &[u8],
-    next: NextChunk,
-    spans: &[usize],
-    merged: &[u32],
-    out: &mut [u8],
-) -> ChunkResult
-    requires { (clusters_in s.now spans.now merged.now ≤ 1_024) × MergedChunk s.now next spans.now merged.now }
-    ensures { ChunkWritten next.before result out.old out.new (merged_outcome s.now next merged.now) }
-{
-    let mut floats = [[0.0; 10]; 1024];
-    let mut words = [[0; 6]; 1024];
-    let mut order = [0; 1024];
-    let mut spare = [0; 1024];
-    layout_merged(
-        s,
-        next,
-        spans,
-        merged,
-        &mut floats,
-        &mut words,
-        &mut order,
-        &mut spare,
-        out,
-    )
+    let mut clusters = [Cluster::BLANK; N];
+    let mut order = [0; N];
+    let mut spare = [0; N];
+    layout_merged(chunk, &mut clusters, &mut order, &mut spare, out)
 }
 
 // For more than 64 clusters. Its callers have tables of their own for fewer, and so no share in these tables' stack.
-pub fn long_chunk(
-    s: &[u8],
-    next: NextChunk,
-    spans: &[usize],
-    merged: &[u32],
-    out: &mut [u8],
-) -> ChunkResult
-    requires { MergedChunk s.now next spans.now merged.now }
-    ensures { ChunkWritten next.before result out.old out.new (merged_outcome s.now next merged.now) }
+pub fn long_chunk(chunk: Merged, out: &mut [u8]) -> Result<Progress, Refusal>
+    ensures { ChunkWritten chunk.entry.next.before result out.old out.new
+        (merged_outcome chunk.entry.s.now chunk.entry.next chunk.entry.glyphs.now) }
 {
-    if clusters_at_most(s, spans, merged, 256) {
-        return chunk_of_256(s, next, spans, merged, out);
+    if clusters_at_most(chunk.s, chunk.spans, chunk.glyphs, 256) {
+        return chunk_of::<256>(chunk, out);
     }
-    chunk_of_1024(s, next, spans, merged, out)
+    chunk_of::<1024>(chunk, out)
 }

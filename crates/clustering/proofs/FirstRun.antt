@@ -1,6 +1,6 @@
 -- The runs of a merged list: how long the first of them is, and what is behind it. Assumes nothing.
-use Prim.Native.Nat.{ℕ, suc, ◌+◌}
-use mathlib.Core.Path.{◌≡◌, refl, sym, ap, ◌∙◌}
+use Prim.Native.Nat.{ℕ, suc, ◌<◌}
+use mathlib.Core.Path.{◌≡◌, refl, sym, ap}
 use mathlib.Core.Bool.{Bool, true, false, not}
 use mathlib.Core.List.{List, [], ◌∷◌}
 use native.Mathlib.Omega.{arith}
@@ -11,17 +11,11 @@ use borrow.Author.Tests.{eqb-true, eqb-false, eq-eqb, ne_eqb}
 use Rattle.spec.specs.declared.Glyph.{Glyph}
 use Rattle.spec.specs.Lists.{find_idx}
 use Rattle.spec.specs.Group.{join_run, glyph_runs}
-use Rattle.spec_laws.proofs.Search.{find-le, found_from}
+use Rattle.spec_laws.proofs.Search.{find-le}
 
 -- a glyph of another byte index
 abbrev pub other : ℕ → Glyph → Bool
 other index g = not (eqb g.index index)
-
-pub is-other : (index : ℕ) (g : Glyph) {i : ℕ} → i ≡ g.index → (i ≡ index → ⊥) → other index g ≡ true
-is-other index g e h = rw (ne_eqb g.index index (λ f. h (e ∙ f)))
-
-pub is_same : (index : ℕ) (g : Glyph) {i : ℕ} → i ≡ g.index → i ≡ index → other index g ≡ false
-is_same index g e h = rw (eq-eqb g.index index (sym e ∙ h))
 
 -- how many glyphs join g
 abbrev joining : Glyph → List Glyph → ℕ
@@ -55,7 +49,10 @@ first-length g gs = rw (first_run g gs) (ap suc (length-take-le (joining g gs) g
 pub runs-split : {g : Glyph} {gs rest : List Glyph} (m : ℕ) → gs ≡ g ∷ rest → m ≡ run_length gs → glyph_runs gs ≡ take m gs ∷ glyph_runs (drop m gs)
 runs-split {g} {gs} {rest} m e h = rw (h, e, first-length g rest) (first_run g rest)
 
--- a search for another byte index from the second glyph on finds where the run ends
-pub run-search : (gs : List Glyph) (i index : ℕ) {g : Glyph} → drop i gs ≡ g ∷ drop (i + 1) gs → index ≡ g.index
-    → found_from (other index) gs (i + 1) ≡ i + run_length (drop i gs)
-run-search gs i index {g} e h = rw (e, h, first-length g (drop (i + 1) gs)) (omega arith)
+-- a search for another byte index finds how long it is
+pub run-search : {g : Glyph} {gs rest : List Glyph} (index : ℕ) → gs ≡ g ∷ rest → index ≡ g.index → find_idx (other index) gs ≡ run_length gs
+unfolding find_idx
+run-search {g} {gs} {rest} index e h = rw (e, eq-eqb g.index index (sym h), first-length g rest) (ap (λ (i : ℕ). suc (find_idx (other i) rest)) h)
+
+pub run_some : {g : Glyph} {gs rest : List Glyph} → gs ≡ g ∷ rest → 0 < run_length gs
+run_some {g} {gs} {rest} e = rw e (omega (arith, first-length g rest))

@@ -1,15 +1,16 @@
 -- The glyphs of a merged list by their places, and the spans: the next one, and a part of them. Assumes nothing.
-use Prim.Native.Nat.{ℕ, zero, suc, ◌+◌, ◌-◌, ◌≤◌, ◌<◌}
-use mathlib.Core.Path.{◌≡◌, refl, ap, ◌∙◌}
+use Prim.Native.Nat.{ℕ, ◌+◌, ◌-◌, ◌≤◌, ◌<◌}
+use mathlib.Core.Path.{◌≡◌, sym, ap, ◌∙◌}
 use mathlib.Core.Bool.{true}
 use mathlib.Core.List.{List, [], ◌∷◌, map}
 use native.Mathlib.Numerals.{add-one}
 use native.Mathlib.Omega.{arith}
 use lib.ListN.{length, get_or, take, drop, length-map, length-take, length-drop, drop_of_length-le}
-use lib.Seq.{take-nil, drop-cons, get_or-take, length-take-le}
+use lib.Seq.{drop-cons, get_or-take, length-take-le}
+use Rattle.std.proofs.lemmas.List.{take-map, drop-take, get_or-drop}
 use Rattle.spec.specs.declared.Glyph.{Glyph}
 use Rattle.spec.specs.Check.{units_ok}
-use Rattle.spec.specs.Decode.{glyph_of, span_of}
+use Rattle.spec.specs.Decode.{glyph_of}
 use Rattle.job_rows.specs.Rows.{spans_in, glyphs_at, glyphs_in}
 use Rattle.job_rows.proofs.ByNumber.{map-in}
 use Rattle.clustering.proofs.Passing.{all_first, all_take, all_drop}
@@ -22,23 +23,15 @@ map_next f l i d h =
     let h₁ : i < length (map f l) = rw (length-map l f) h in
     rw (add-one, drop-cons (map f l) i (f d) h₁, map-in f l i d (f d) h)
 
-pub map-take : {A B : Type 0} (f : A → B) (n : ℕ) (l : List A) → take n (map f l) ≡ map f (take n l)
-map-take f zero l = refl
-map-take f (suc n) [] = refl
-map-take f (suc n) (x ∷ l) = ap {B = List _} (λ r. f x ∷ r) (map-take f n l)
+-- ---- a part of a list of places, from place i to n
 
--- n elements behind the first i are those from i to i + n
-take-drop : {A : Type 0} (n i : ℕ) (l : List A) → take n (drop i l) ≡ drop i (take (i + n) l)
-take-drop n zero l = let e : 0 + n ≡ n = omega arith in rw e
-take-drop n (suc i) [] = let e : suc i + n ≡ suc (i + n) = omega arith in rw (e, take-nil n)
-take-drop n (suc i) (x ∷ l) = let e : suc i + n ≡ suc (i + n) = omega arith in rw e (take-drop n i l)
+pub read-part : (places : List ℕ) (i n k : ℕ) → k < length (take (n - i) (drop i places))
+    → (i + k < n) × (get_or (take (n - i) (drop i places)) k 0 ≡ get_or places (i + k) 0)
+read-part places i n k h =
+    let l = length-take (n - i) (drop i places) in
+    (omega (arith, l), get_or-take (n - i) (drop i places) k 0 (omega (arith, l)) ∙ get_or-drop i places k 0)
 
--- ---- the next span and the next glyph
-
-pub span-next : (s places : List ℕ) (k : ℕ) → k < length places
-    → drop k (spans_in s places) ≡ span_of (drop (get_or places k 0) s) ∷ drop (k + 1) (spans_in s places)
-unfolding spans_in
-span-next s places k h = map_next (λ (at : ℕ). span_of (drop at s)) places k 0 h
+-- ---- how many spans, and the next glyph
 
 pub spans-length : (s places : List ℕ) → length (spans_in s places) ≡ length places
 unfolding spans_in
@@ -80,11 +73,11 @@ module _ (s merged : List ℕ) (n : ℕ) where
 
   pub glyphs-take : glyphs_in s merged n ≡ take n (glyphs_at s merged)
   unfolding glyphs_in glyphs_at
-  glyphs-take = rw map-take
+  glyphs-take = sym (take-map _ n merged)
 
   -- m of them from i on
   pub glyphs-part : (i m : ℕ) → n ≡ i + m → take m (drop i (glyphs_at s merged)) ≡ glyphs_from s merged i n
-  glyphs-part i m e = rw (glyphs-take, e) (take-drop m i (glyphs_at s merged))
+  glyphs-part i m e = rw (glyphs-take, e) (sym (drop-take i m (glyphs_at s merged)))
 
   pub widths-part : (i : ℕ) → widths_ok (glyphs_at s merged) ≡ true → widths_ok (glyphs_from s merged i n) ≡ true
   widths-part i e = rw glyphs-take (all_drop _ i (take n (glyphs_at s merged)) (all_take _ n (glyphs_at s merged) e))

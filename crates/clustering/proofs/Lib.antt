@@ -4,5 +4,6 @@ pub mod FirstRun
 pub mod FewClusters
 pub mod NextRun
 pub mod Passing
+pub mod Found
 pub mod Sums
 pub mod LoopSteps

@@ -2,20 +2,19 @@
 use Prim.Native.Nat.{ℕ, ◌+◌, ◌≤◌, ◌<◌}
 use mathlib.Core.Path.{◌≡◌, refl, ap, ◌∙◌}
 use mathlib.Core.Bool.{Bool, true}
-use mathlib.Core.List.{List, [], ◌∷◌, ◌++◌, append-nil, map, map-append, zip_with}
+use mathlib.Core.List.{List, [], ◌∷◌, ◌++◌, append-nil, map, map-append}
 use native.Mathlib.Numerals.{add-one}
 use native.Mathlib.Omega.{arith}
-use lib.ListN.{length, get_or, take, drop, set}
+use lib.ListN.{length, take, drop, set}
 use lib.Seq.{append_snoc, take-suc-set}
-use lib.Ieee.{Float}
 use borrow.Author.Tests.{lt-ltb, le-ltb}
 use Rattle.spec.specs.declared.Cluster.{Cluster}
 use Rattle.spec.specs.declared.Glyph.{Glyph}
 use Rattle.spec.specs.declared.Span.{Span}
 use Rattle.spec.specs.Lists.{all}
 use Rattle.spec.specs.Group.{Group, chunk_span_at, glyph_runs, covered_runs, groups}
-use Rattle.cluster_table.specs.Clusters.{clusters_of, floats_of, words_of, indexes_in}
-use Rattle.cluster_table.proofs.Rows.{clusters-push}
+use Rattle.spec.specs.Arithmetic.{indexes}
+use Rattle.spec.specs.Cluster.{rounded}
 use Rattle.job_rows.specs.Rows.{spans_in, glyphs_at}
 use Rattle.clustering.specs.Groups.{glyph_in, group_in, clusters_in}
 use Rattle.clustering.proofs.Passing.{all_push}
@@ -57,29 +56,34 @@ module _ (s places merged : List ℕ) where
   pub groups-all : (n i : ℕ) → Counted n i → groups_from i ≡ [] → n ≡ clusters_in s places merged
   groups-all n i counted e = omega (arith, ap length e)
 
--- the run from place i to end, and the first span that covers it: what `run_end`, `index_in` and `chunk_span_at` ensure
-pub record Run (s places merged : List ℕ) (i end k : ℕ) : Type 0 where
+-- the run from place i to `end`, and its byte index: what `run_end` and `index_in` ensure
+pub record Run (s merged : List ℕ) (i end index : ℕ) : Type 0 where
   pub ends : (end ≡ i + run_length (drop i (glyphs_at s merged))) × (i < end) × (end ≤ length merged)
-  pub span : k ≡ chunk_span_at (spans_in s places) (glyph_in s merged i).index
+  pub at : index ≡ (glyph_in s merged i).index
 
-pub run_at : {s places merged : List ℕ} {i end index k : ℕ} → (end ≡ i + run_length (drop i (glyphs_at s merged))) × (i < end) × (end ≤ length merged)
-    → index ≡ (glyph_in s merged i).index → k ≡ chunk_span_at (spans_in s places) index → Run s places merged i end k
-run_at ends at covers = record { ends = ends; span = rw (← at) covers }
+pub run_at : {s merged : List ℕ} {i end index : ℕ} → (end ≡ i + run_length (drop i (glyphs_at s merged))) × (i < end) × (end ≤ length merged)
+    → index ≡ (glyph_in s merged i).index → Run s merged i end index
+run_at ends at = record { ends = ends; at = at }
 
-module _ {s places merged : List ℕ} {i end k : ℕ} (run : Run s places merged i end k) where
-  pub groups-passed : length places ≤ k → groups_from s places merged i ≡ groups_from s places merged end
-  groups-passed h =
+module _ {s merged : List ℕ} (places : List ℕ) {i end index : ℕ} (run : Run s merged i end index) where
+  -- the first span that covers it
+  abbrev cover : ℕ
+  cover = chunk_span_at (spans_in s places) index
+
+  pub groups-passed : cover ≡ length places → groups_from s places merged i ≡ groups_from s places merged end
+  groups-passed e =
       let next = run-glyphs s merged i end run.ends in
       rw (runs-next s merged i end run.ends)
-      (covered-passed (spans_in s places) i k _ next run.span (rw (spans-length s places) h) ∙ (rw (run-behind s merged i end run.ends)))
+      (covered-passed (spans_in s places) i cover _ next (ap (chunk_span_at (spans_in s places)) run.at) (omega (arith, spans-length s places))
+      ∙ (rw (run-behind s merged i end run.ends)))
 
-  module _ (h : k < length places) where
+  module _ {k : ℕ} (here : (k ≡ cover) × (k < length places)) where
     pub groups-kept : groups_from s places merged i ≡ group_in s merged i end k ∷ groups_from s places merged end
     unfolding group_in
     groups-kept =
         let next = run-glyphs s merged i end run.ends in
         rw (runs-next s merged i end run.ends)
-        (covered-kept (spans_in s places) i k _ next run.span (rw (spans-length s places) h) ∙ (rw (run-behind s merged i end run.ends)))
+        (covered-kept (spans_in s places) i k _ next (here.0 ∙ ap (chunk_span_at (spans_in s places)) run.at) (rw (spans-length s places) here.1) ∙ (rw (run-behind s merged i end run.ends)))
 
     pub groups-room : (n : ℕ) → Counted s places merged n i → n < clusters_in s places merged
     groups-room n counted = omega (arith, ap length groups-kept)
@@ -87,32 +91,20 @@ module _ {s places merged : List ℕ} {i end k : ℕ} (run : Run s places merged
     pub groups-turn : (n : ℕ) → Counted s places merged n i → Counted s places merged (n + 1) end
     groups-turn n counted = omega (arith, ap length groups-kept)
 
--- ---- n clusters are stored, and those of the groups that are left are still to be formed
+-- ---- the first n rows are stored, and the clusters of the groups that are left are still to be formed
 
-module _ (form : Group → Cluster) (floats : List (List Float)) (words : List (List ℕ)) where
+module _ (form : Group → Cluster) (clusters : List Cluster) where
   abbrev pub formed : ℕ → List Group → List Cluster
-  formed n left = clusters_of floats words n ++ map form left
+  formed n left = take n clusters ++ map form left
 
-  pub formed-none : (left : List Group) → formed 0 left ≡ map form left
-  unfolding clusters_of zip_with
-  formed-none left = refl
-
-  pub formed-all : (n : ℕ) {left : List Group} → left ≡ [] → formed n left ≡ clusters_of floats words n
-  formed-all n e = rw e (append-nil (clusters_of floats words n))
-
-pub indexes-none : (p : ℕ → Bool) (words : List (List ℕ)) → all p (indexes_in words 0) ≡ true
-unfolding indexes_in all
-indexes-none p words = refl
+  pub formed-all : (n : ℕ) {left : List Group} → left ≡ [] → formed n left ≡ take n clusters
+  formed-all n e = rw e (append-nil (take n clusters))
 
 -- the cluster c is stored, of the first group that is left
-module _ (floats : List (List Float)) (words : List (List ℕ)) (n : ℕ) (c : Cluster) {floats' : List (List Float)} {words' : List (List ℕ)}
-    (ef : floats' ≡ set floats n (floats_of c)) (ew : words' ≡ set words n (words_of c)) (q : n < length words) where
-  pub formed-turn : (form : Group → Cluster) {g : Group} {left rest : List Group} → c ≡ form g → left ≡ g ∷ rest → n < length floats
-      → formed form floats' words' (n + 1) rest ≡ formed form floats words n left
-  formed-turn form {rest = rest} ec el p =
-      rw (ef, ew, clusters-push floats words n c p q, el, ← ec) (append_snoc (clusters_of floats words n) c (map form rest))
+module _ (clusters : List Cluster) (n : ℕ) (c : Cluster) (h : n < length clusters) where
+  pub formed-turn : (form : Group → Cluster) {g : Group} {left rest : List Group} → c ≡ form g → left ≡ g ∷ rest
+      → formed form (set clusters n c) (n + 1) rest ≡ formed form clusters n left
+  formed-turn form {rest = rest} ec el = rw (add-one, take-suc-set clusters n c h, el, ← ec) (append_snoc (take n clusters) c (map form rest))
 
-  pub indexes-turn : (p : ℕ → Bool) → p c.index ≡ true → all p (indexes_in words n) ≡ true → all p (indexes_in words' (n + 1)) ≡ true
-  unfolding indexes_in
-  indexes-turn p h e =
-      rw (ew, add-one, take-suc-set words n (words_of c), map-append) (all_push p (map (λ (w : List ℕ). get_or w 0 0) (take n words)) c.index e h)
+  pub indexes-turn : (p : ℕ → Bool) → p c.index ≡ true → all p (indexes rounded (take n clusters)) ≡ true → all p (indexes rounded (take (n + 1) (set clusters n c))) ≡ true
+  indexes-turn p h₁ e = rw (add-one, take-suc-set clusters n c h, map-append) (all_push p (indexes rounded (take n clusters)) c.index e h₁)

@@ -1,5 +1,5 @@
 -- What is kept of a cluster for the next: the measures of its span and of its first glyph's font. Definitions only.
-use Rattle.std.specs.Prelude.{ℕ, ◌<◌, ◌≡◌, List, length, Float}
+use Rattle.std.specs.Prelude.{ℕ, ◌≡◌, List, Float, Option, IfSome}
 use Rattle.spec.specs.declared.Font.{Font}
 use Rattle.spec.specs.Single.{◌/ᶠ◌, of_nat}
 use Rattle.spec.specs.Job.{font_at, span_at}
@@ -16,6 +16,6 @@ measures_at f size k b =
 abbrev pub measures_in : List ℕ → ℕ → List ℕ → ℕ → ℕ → Measures
 measures_in s fonts spans k b = measures_at (font_at (fonts_in s fonts) b) (span_at (spans_in s spans) k).size k b
 
--- the measures are those of their own span and font, if there is such a span
-abbrev pub Kept : List ℕ → ℕ → List ℕ → Measures → Type 0
-Kept s fonts spans m = m.span < length spans → m ≡ measures_in s fonts spans m.span m.font
+-- the measures that are kept, if any are, are those of their own span and font
+abbrev pub Kept : List ℕ → ℕ → List ℕ → Option Measures → Type 0
+Kept s fonts spans kept = IfSome kept (λ (m : Measures). m ≡ measures_in s fonts spans m.span m.font)

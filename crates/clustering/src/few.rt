@@ -15,10 +15,10 @@ pub fn clusters_at_most(s: &[u8], spans: &[usize], merged: &[u32], most: usize) 
     }
     let mut n: usize = 0;
     let mut i: usize = 0;
+    // Not `chunk_by`, as in `form_clusters`.
     while i < merged.len() {
         let end = run_end(s, merged, i);
-        let k = chunk_span_at(s, spans, index_in(s, merged, i) as usize);
-        if k < spans.len() {
+        if chunk_span_at(s, spans, index_in(s, merged, i) as usize).is_some() {
             if n == most {
                 return false;
             }

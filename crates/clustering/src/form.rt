@@ -12,7 +12,6 @@ ghost use Rattle.clustering.specs.Groups.{glyph_in, glyphs_from, group_in, Measu
 ghost use Rattle.clustering.specs.Kept.{measures_at};
 
 use crate::measures::Measures;
-use crate::runs::place_in;
 use font_metrics::{measure_at, measure_units};
 use job_rows::numbered::units_in;
 use job_rows::sizes::{GLYPH_FONT_AT, GLYPH_WIDTH_AT};
@@ -20,6 +19,7 @@ use spec::{Cluster, Glyph};
 use wire::read::{i32_at, u8_at};
 
 // The advance of the glyph whose row stands at `at`, of its own font.
+#[tactic(auto, unfolding(spec::specs::Decode::glyph_of))]
 pub fn glyph_advance(s: &[u8], fonts: usize, at: usize, size: f32) -> f32
     requires { units_ok (glyph_of (drop at s.now)).width ≡ true }
     ensures { result ≡ glyph_advance rounded (fonts_in s.now fonts) size (glyph_of (drop at s.now)) }
@@ -36,13 +36,13 @@ struct Advances {
     advance: f32,
 }
 
-// With one glyph more, whose advance is `own`.
+// With one glyph more, whose advance is `own`. Not `f32::max`: the definition says which of two zeros stays, and what a NaN does.
 fn with_glyph(a: Advances, own: f32) -> Advances
     ensures { (result.width ≡ greatest rounded a.width own) × (result.advance ≡ a.advance +ᶠ own) }
 {
     let width = if own > a.width { own } else { a.width };
     Advances {
-        width: width,
+        width,
         advance: a.advance + own,
     }
 }
@@ -66,30 +66,27 @@ fn glyph_advances(
         advance: 0.0,
     };
     let mut all = with_glyph(none, first);
-    let mut i = from + 1;
-    while i < end {
-        all = with_glyph(all, glyph_advance(s, fonts, place_in(merged, i), size));
-        i += 1;
+    for at in &merged[from + 1..end] {
+        all = with_glyph(all, glyph_advance(s, fonts, *at as usize, size));
     }
     all
 }
 
-// The cluster of the glyphs from place `from` to `end`, which the span of place `k` covers. The first glyph and the measures of its font and of
-// the span are given.
+// The cluster of the glyphs from place `from` to `end`. The first of them is given, and the measures of its font and of the span that covers
+// them.
 pub fn form_glyph_clusters(
     s: &[u8],
     fonts: usize,
     merged: &[u32],
     from: usize,
     end: usize,
-    k: usize,
     first: Glyph,
     m: Measures,
 ) -> Cluster
-    requires { Measurable s.now merged.now from end × (end ≤ 1_024) × (k < 256) × (first ≡ glyph_in s.now merged.now from)
-        × (m ≡ measures_at (font_at (fonts_in s.now fonts) first.font) m.size k first.font) }
-    ensures { ((spans : List Span) → m.size ≡ (span_at spans k).size
-        → result ≡ form_glyph_clusters (fonts_in s.now fonts) spans (group_in s.now merged.now from end k)) × (result.index < 65_536) }
+    requires { Measurable s.now merged.now from end × (end ≤ 1_024) × (m.span < 256) × (first ≡ glyph_in s.now merged.now from)
+        × (m ≡ measures_at (font_at (fonts_in s.now fonts) first.font) m.size m.span first.font) }
+    ensures { ((spans : List Span) → m.size ≡ (span_at spans m.span).size
+        → result ≡ form_glyph_clusters (fonts_in s.now fonts) spans (group_in s.now merged.now from end m.span)) × (result.index < 65_536) }
 {
     let own = measure_at(m.scale, first.width);
     let advances = glyph_advances(s, fonts, merged, from, end, m.size, own);
@@ -97,22 +94,13 @@ pub fn form_glyph_clusters(
         index: first.index as u32,
         tag: first.tag,
         upright: first.orientation == 1,
-        span: k as u32,
+        span: m.span as u32,
         from: from as u32,
         count: (end - from) as u32,
-        relative: false,
-        scaled: false,
-        rotated: false,
-        collapsed: false,
         width: advances.width,
         advance: advances.advance,
-        spacing: 0.0,
         ascent: m.ascent,
         descent: m.descent,
-        nudge: 0.0,
-        scale: 0.0,
-        x: 0.0,
-        y: 0.0,
-        angle: 0.0,
+        ..Cluster::BLANK
     }
 }

@@ -5,7 +5,6 @@
 
 pub mod chunk;
 pub mod few;
-pub mod first;
 pub mod form;
 pub mod measures;
 pub mod runs;

@@ -9,12 +9,8 @@ mod run;
 ghost use Rattle.std.specs.Prelude.{◌≤◌};
 
 use column_window::{WINDOW_WORDS, open_window};
-use std::env;
-use std::fs::File;
 use wire::read::{u8_at, u32_at};
 use wire::slice::tail;
-
-const STDOUT: i32 = 1;
 
 // Of a longer file no more is read.
 const ROOM: usize = 4_096;
@@ -34,63 +30,30 @@ const ROWS_AT: usize = 5;
 fn lent_words(file: &[u8]) -> usize
     ensures { result ≤ 80 }
 {
-    let lent = u8_at(file, LENT_AT) as usize;
-    if WORDS < lent {
-        return WORDS;
-    }
-    lent
+    usize::from(u8_at(file, LENT_AT)).min(WORDS)
 }
 
-fn show_window(window: &mut [u32], file: &[u8]) {
+// A write that fails is passed over.
+fn show_window(rt: &impl Print, window: &mut [u32], file: &[u8]) {
     let opened = open_window(window, u32_at(file, SPAN_AT));
-    io::write_all(STDOUT, b" ");
-    io::print_decimal(STDOUT, opened.number as u64);
-    io::write_all(STDOUT, b"\n");
-    run::show(feed::feed_rows(window, tail(file, ROWS_AT)));
+    let _ = println!(rt; " {}", opened.number);
+    run::show(rt, feed::feed_rows(rt, window, tail(file, ROWS_AT)));
 }
 
 // Whether each word past the window is as it was before the opening.
 fn past_kept(words: &[u32; WORDS]) -> bool {
-    let mut i = WINDOW_WORDS;
-    while i < WORDS {
-        if words[i] != PATTERN {
-            return false;
-        }
-        i += 1;
-    }
-    true
+    words[WINDOW_WORDS..].iter().all(|word| *word == PATTERN)
 }
 
-fn show_past(words: &[u32; WORDS]) {
-    if past_kept(words) {
-        io::write_all(STDOUT, b"past kept\n");
-        return;
-    }
-    io::write_all(STDOUT, b"past changed\n");
-}
-
-fn show_case(file: &[u8]) {
+fn show_case(rt: &impl Print, file: &[u8]) {
     let mut words = [PATTERN; WORDS];
     let lent = lent_words(file);
-    show_window(&mut words[..lent], file);
-    show_past(&words);
-}
-
-fn show_read(named: &mut File) {
-    let mut file = [0u8; ROOM];
-    let n = named_files::read_full(named, &mut file);
-    show_case(&file[..n]);
-}
-
-fn show_file(rt: &HostRuntime, path: &str) {
-    if let Some(mut named) = named_files::open_argument(rt, path) {
-        show_read(&mut named);
-    }
+    show_window(rt, &mut words[..lent], file);
+    let past = if past_kept(&words) { "kept" } else { "changed" };
+    let _ = println!(rt; "past {past}");
 }
 
 fn main(rt: HostRuntime) -> std::io::Result<()> {
-    for path in env::args(&rt)?.skip(1) {
-        show_file(&rt, path.as_str());
-    }
-    Ok(())
+    let mut file = [0; ROOM];
+    named_files::show_each(&rt, &mut file, |file| show_case(&rt, file))
 }

@@ -14,6 +14,9 @@ use Rattle.spec.specs.Outcome.{refused, given}
 use Rattle.column_window.specs.Window.{Window, labels_most, span_ok, extent_ok, with, empty, added}
 use Rattle.column_window.specs.Words.{window_words, span_word, count_word, place_word, pattern_of, opened_words, added_words, width_pattern, Ready}
 use Rattle.column_window.specs.State.{Holds}
+use Rattle.column_window.specs.declared.refusal.ColumnRefusal.{ColumnRefusal}
+use Rattle.column_window.specs.declared.refusal.ColumnRefusal.TheVariants.{TooManyLabels, BadExtent, NoRoom, BadWindow}
+use Rattle.column_window.specs.Refusal.{refusal_number}
 use Rattle.column_window.specs.Called.{open_number, is_window, words_number, add_number, WindowOpened, ExtentAdded}
 use Rattle.column_window.proofs.Extents.{kept_back, kept-extent}
 use Rattle.column_window.proofs.Stored.{past-opened, past-added}
@@ -33,19 +36,16 @@ opens-when b n e = by (span_ok n) refl (ltb (length b) window_words) refl e
     by true p true q e = absurd (not-zero (omega arith) e)
     by false p u q e = absurd (not-zero (omega arith) e)
 
-pub opened : (b : List ℕ) (s : ℕ) {n : ℕ} {width : Float} {a : List ℕ} → n ≡ open_number b s → width ≡ +0 → n ≡ 0 → a ≡ opened_words b s → WindowOpened b s n width a
-opened b s e z o f =
-    let m = opens-when b s (sym e ∙ o) in record {
+pub opened : (b : List ℕ) (s : ℕ) {a : List ℕ} → 0 ≡ open_number b s → a ≡ opened_words b s → WindowOpened b s 0 +0 a
+opened b s e f =
+    let m = opens-when b s (sym e) in record {
       number = e;
-      zero = z;
-      untouched = λ l. absurd (not-zero l o);
+      zero = refl;
+      untouched = λ l. absurd (not-zero l refl);
       words = λ q. f;
       past = ap (drop window_words) f ∙ past-opened b s;
       holds = λ q. subst (λ (l : List ℕ). Holds l (empty s)) (sym f) (opened-holds b s m.0 m.1);
     }
-
-pub not_opened : (b : List ℕ) (s : ℕ) {n : ℕ} {width : Float} → n ≡ open_number b s → width ≡ +0 → (n ≡ 0 → ⊥) → WindowOpened b s n width b
-not_opened b s e z o = record { number = e; zero = z; untouched = λ l. refl; words = λ q. absurd (o q); past = refl; holds = λ q. absurd (o q) }
 
 -- ---- `add_extent`
 
@@ -104,34 +104,40 @@ module _ (b : List ℕ) (x : Float) (w : Window) (h : Holds b w) where
       by true false e = absurd (not-zero (omega arith) e)
       by false u e = absurd (not-zero (omega arith) e)
 
-pub not-added : (b : List ℕ) (x : Float) {n : ℕ} {width : Float} → n ≡ add_number b x → (n ≡ 0 → ⊥) → width ≡ +0 → ExtentAdded b x n width b
-not-added b x {n} {width} e o z = record {
+refusal_positive : (r : ColumnRefusal) → 0 < refusal_number r
+refusal_positive TooManyLabels = omega arith
+refusal_positive BadExtent = omega arith
+refusal_positive NoRoom = omega arith
+refusal_positive BadWindow = omega arith
+
+pub not-added : (b : List ℕ) (x : Float) (r : ColumnRefusal) → refusal_number r ≡ add_number b x → ExtentAdded b x (refusal_number r) +0 b
+not-added b x r e = record {
   number = e;
-  zero = λ l. z;
+  zero = λ l. refl;
   untouched = λ l. refl;
-  words = λ q. absurd (o q);
-  shows = λ q. absurd (o q);
+  words = λ q. absurd (none q);
+  shows = λ q. absurd (none q);
   past = refl;
-  answer = λ w h. rw (as-refused w h, ne_eqb n 0 o) refl;
+  answer = λ w h. rw (as-refused w h, ne_eqb (refusal_number r) 0 none) refl;
   holds = λ w h. rw (as-refused w h) h;
 }
   where
-    as-refused : (w : Window) → Holds b w → added w x ≡ refused n
-    as-refused w h = held-refused b x w h (rw (sym e) (pos_of o)) ∙ ap refused (sym e)
-      where
-        pos_of : (n ≡ 0 → ⊥) → 0 < n
-        pos_of o = omega arith
+    none : refusal_number r ≡ 0 → ⊥
+    none q = not-zero (refusal_positive r) q
 
-pub is-added : (b : List ℕ) (x : Float) {n : ℕ} {width : Float} {a : List ℕ} → T (fits binary32 x) → n ≡ 0 → add_number b x ≡ 0 → a ≡ added_words b (pattern_of x)
-    → width ≡ of_bits binary32 (width_pattern a) → ExtentAdded b x n width a
-is-added b x {n} {width} {a} k o e f g = record {
-  number = o ∙ sym e;
-  zero = λ l. absurd (not-zero l o);
-  untouched = λ l. absurd (not-zero l o);
+    as-refused : (w : Window) → Holds b w → added w x ≡ refused (refusal_number r)
+    as-refused w h = held-refused b x w h (rw (sym e) (refusal_positive r)) ∙ ap refused (sym e)
+
+pub is-added : (b : List ℕ) (x : Float) {width : Float} {a : List ℕ} → T (fits binary32 x) → add_number b x ≡ 0 → a ≡ added_words b (pattern_of x)
+    → width ≡ of_bits binary32 (width_pattern a) → ExtentAdded b x 0 width a
+is-added b x {width} {a} k e f g = record {
+  number = sym e;
+  zero = λ l. absurd (not-zero l refl);
+  untouched = λ l. absurd (not-zero l refl);
   words = λ q. f;
   shows = λ q. g;
   past = ap (drop window_words) f ∙ past-added b (pattern_of x) (adds-when b x e).1;
-  answer = λ w h. rw (held-given b x w h e, o) (ap given (g ∙ held-width a (with w x) (more w h)));
+  answer = λ w h. rw (held-given b x w h e) (ap given (g ∙ held-width a (with w x) (more w h)));
   holds = λ w h. rw (held-given b x w h e) (more w h);
 }
   where

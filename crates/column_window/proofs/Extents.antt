@@ -5,39 +5,28 @@ use mathlib.Core.Bool.{Bool, true, false, cond, ◌&&◌, ◌||◌}
 use lib.Dec.{T, eqb, eqb→eq}
 use lib.IntN.{ℤ, pos}
 use lib.Ieee.{Float, nan, inf, fin, up, down, binary32, lt, le, eq, fits, of_bits, to_bits}
+use lib.Ieee.Scale.{finite}
 use lib.Ieee.Bits.{of_bits-to_bits, of_bits-fits}
 use lib.Ieee.Fits.{and_l, and_r}
 use borrow.Author.Tests.{eq-eqb}
+use Rattle.std.specs.Float.{float_is_finite}
 use Rattle.spec.specs.Single.{+0}
 use Rattle.column_window.specs.Window.{extent_ok, plain}
 use Rattle.column_window.specs.Words.{pattern_of}
 use Rattle.column_window.specs.State.{is_extent}
 use Rattle.column_window.proofs.Patterns.{unsigned, unsigned-pattern}
 
--- of what is not below zero: finite where it is below an infinity
-pub ok-below : (x : Float) → le +0 x ≡ true → lt x (of_bits binary32 0x7f800000) ≡ extent_ok x
-unfolding extent_ok lt le of_bits
-ok-below nan e = refl
-ok-below (inf true) e = sym e
-ok-below (inf false) e = refl
-ok-below (fin s m k) e = sym e
-
--- below zero, or a NaN
-pub ok-not : (x : Float) → le +0 x ≡ false → false ≡ extent_ok x
-unfolding extent_ok
-ok-not nan e = refl
-ok-not (inf s) e = refl
-ok-not (fin s m k) e = sym e
+pub finite_same : (x : Float) → float_is_finite x ≡ finite x
+unfolding float_is_finite
+finite_same nan = refl
+finite_same (inf s) = refl
+finite_same (fin s m k) = refl
 
 -- ---- the pattern that is kept
 
-pub pattern-zero : (x : Float) → eq x +0 ≡ true → 0 ≡ pattern_of x
+pub pattern_zero : (x : Float) → eq x +0 ≡ true → pattern_of x ≡ 0
 unfolding pattern_of plain to_bits of_bits
-pattern-zero x e = rw e refl
-
-pub pattern-other : (x : Float) → eq x +0 ≡ false → to_bits binary32 x ≡ pattern_of x
-unfolding pattern_of plain
-pattern-other x e = rw e refl
+pattern_zero x e = rw e refl
 
 -- of the floats with their sign set, minus zero alone passes
 level-both : (a b : ℕ) → T (eqb a b && (false || eqb a 0)) → (eqb b a && (false || eqb b 0)) ≡ true

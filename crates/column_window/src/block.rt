@@ -1,28 +1,17 @@
 // The running block: labels are put into it, and its tails made when it is full.
-ghost use Rattle.std.specs.Prelude.{◌≡◌, ◌+◌, ◌<◌, max, length};
+ghost use Rattle.std.specs.Prelude.{◌≡◌, ◌+◌, ◌<◌, length};
 ghost use Rattle.column_window.specs.Words.{place_word, tails, added_words, width_pattern, Ready};
 
 use crate::words::{BEST, BLOCK, COUNT, PLACE, SPAN};
-
-// The higher of two patterns, which is the pattern of the larger extent.
-fn higher(a: u32, b: u32) -> u32
-    ensures { result ≡ max a b }
-{
-    if a < b {
-        return b;
-    }
-    a
-}
 
 // Each place takes the highest from there on.
 fn make_tails(block: &mut [u32])
     ensures { block.new ≡ tails block.old }
 {
-    let mut best: u32 = 0;
-    let mut i = block.len();
-    while 0 < i {
-        i -= 1;
-        best = higher(block[i], best);
+    let mut best = 0;
+    // By place: no law of the library says what a reversed `iter_mut` has written.
+    for i in (0..block.len()).rev() {
+        best = block[i].max(best);
         block[i] = best;
     }
 }
@@ -40,7 +29,7 @@ pub fn put_label(window: &mut [u32], x: u32)
     window[COUNT] = count + 1;
     if at + 1 < span {
         window[PLACE] = (at + 1) as u32;
-        window[BEST] = higher(best, x);
+        window[BEST] = best.max(x);
         return;
     }
     window[PLACE] = 0;
@@ -50,10 +39,11 @@ pub fn put_label(window: &mut [u32], x: u32)
 }
 
 // The pattern of the width.
+#[tactic(auto, unfolding(crate::specs::Words::width_pattern))]
 pub fn width_pattern(window: &[u32]) -> u32
     requires { 4 + place_word window.now < length window.now }
     ensures { result ≡ width_pattern window.now }
 {
     let at = window[PLACE] as usize;
-    higher(window[BLOCK + at], window[BEST])
+    window[BLOCK + at].max(window[BEST])
 }

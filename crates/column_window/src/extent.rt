@@ -3,27 +3,20 @@ ghost use Rattle.std.specs.Prelude.{◌≡◌};
 ghost use Rattle.column_window.specs.Window.{extent_ok};
 ghost use Rattle.column_window.specs.Words.{pattern_of};
 
-use wire::read::f32_of;
 use wire::write::bits_of;
 
-const INFINITY: u32 = 0x7f80_0000;
-
 // Finite, and not below zero.
+#[tactic(auto, using(crate::proofs::Extents::finite_same), unfolding(crate::specs::Window::extent_ok))]
 pub fn extent_ok(extent: f32) -> bool
     ensures { result ≡ extent_ok extent }
 {
-    if 0.0 <= extent {
-        return extent < f32_of(INFINITY);
-    }
-    false
+    extent.is_finite() && 0.0 <= extent
 }
 
 // Zero of either sign counts as plus zero.
+#[tactic(auto, using(crate::proofs::Extents::pattern_zero), unfolding(crate::specs::Words::pattern_of, crate::specs::Window::plain))]
 pub fn pattern(extent: f32) -> u32
     ensures { result ≡ pattern_of extent }
 {
-    if extent == 0.0 {
-        return 0;
-    }
-    bits_of(extent)
+    if extent == 0.0 { 0 } else { bits_of(extent) }
 }

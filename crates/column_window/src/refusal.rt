@@ -1,6 +1,7 @@
-// Why a call is refused: the number of the first cause, or 0.
+// Why a call is refused: the first cause.
 ghost use Rattle.std.specs.Prelude.{◌≡◌};
 ghost use Rattle.column_window.specs.Window.{span_ok};
+ghost use Rattle.column_window.specs.Refusal.{refusal_number, number_of};
 ghost use Rattle.column_window.specs.Called.{open_number, is_window, words_number, add_number};
 
 use crate::extent::extent_ok;
@@ -9,60 +10,85 @@ use crate::words::word_at;
 
 const LABELS_MOST: u32 = 65_535;
 
-const BAD_COUNT: u32 = 3;
+#[derive(Clone, Copy, PartialEq, Eq, Debug)]
+pub enum ColumnRefusal {
+    // One label too many.
+    TooManyLabels,
+    // An extent that is not finite or is below zero.
+    BadExtent,
+    // Too few words.
+    NoRoom,
+    // A span that no window has, or words that no call has left.
+    BadWindow,
+}
 
-const BAD_FIELD: u32 = 4;
+// Its number.
+impl From<ColumnRefusal> for u32 {
+    ghost from_gives = { λ refusal number. number ≡ refusal_number refusal };
 
-const NO_ROOM: u32 = 10;
+    fn from(refusal: ColumnRefusal) -> u32 {
+        match refusal {
+            ColumnRefusal::TooManyLabels => 3,
+            ColumnRefusal::BadExtent => 4,
+            ColumnRefusal::NoRoom => 10,
+            ColumnRefusal::BadWindow => 19,
+        }
+    }
+}
 
-const BAD_WINDOW: u32 = 19;
-
+#[tactic(auto, unfolding(crate::specs::Window::span_ok))]
 fn span_ok(span: u32) -> bool
     ensures { result ≡ span_ok span }
 {
-    (1 <= span) & (span <= words::SPAN_MAX)
+    (1..=words::SPAN_MAX).contains(&span)
 }
 
-pub fn open_number(window: &[u32], span: u32) -> u32
-    ensures { result ≡ open_number window.now span }
+// Whether a window of `span` labels can be opened in the words.
+#[tactic(auto, unfolding(crate::specs::Called::open_number))]
+pub fn check_opening(window: &[u32], span: u32) -> Result<(), ColumnRefusal>
+    ensures { number_of result ≡ open_number window.now span }
 {
     if !span_ok(span) {
-        return BAD_WINDOW;
+        return Err(ColumnRefusal::BadWindow);
     }
     if window.len() < words::WORDS {
-        return NO_ROOM;
+        return Err(ColumnRefusal::NoRoom);
     }
-    0
+    Ok(())
 }
 
 // Whether the words can be a window's.
+#[tactic(auto, unfolding(crate::specs::Called::is_window))]
 fn is_window(window: &[u32]) -> bool
     ensures { result ≡ is_window window.now }
 {
     let span = word_at(window, words::SPAN);
-    span_ok(span) & (word_at(window, words::PLACE) < span)
+    span_ok(span) && word_at(window, words::PLACE) < span
 }
 
-fn words_number(window: &[u32]) -> u32
-    ensures { result ≡ words_number window.now }
+#[tactic(auto, unfolding(crate::specs::Called::words_number))]
+fn check_words(window: &[u32]) -> Result<(), ColumnRefusal>
+    ensures { number_of result ≡ words_number window.now }
 {
     if window.len() < words::WORDS {
-        return NO_ROOM;
+        return Err(ColumnRefusal::NoRoom);
     }
     if !is_window(window) {
-        return BAD_WINDOW;
+        return Err(ColumnRefusal::BadWindow);
     }
-    0
+    Ok(())
 }
 
-pub fn add_number(window: &[u32], extent: f32) -> u32
-    ensures { result ≡ add_number window.now extent }
+// Whether a label of this extent can be put into the words.
+#[tactic(auto, unfolding(crate::specs::Called::add_number))]
+pub fn check_label(window: &[u32], extent: f32) -> Result<(), ColumnRefusal>
+    ensures { number_of result ≡ add_number window.now extent }
 {
     if !extent_ok(extent) {
-        return BAD_FIELD;
+        return Err(ColumnRefusal::BadExtent);
     }
     if LABELS_MOST <= word_at(window, words::COUNT) {
-        return BAD_COUNT;
+        return Err(ColumnRefusal::TooManyLabels);
     }
-    words_number(window)
+    check_words(window)
 }

@@ -1,5 +1,5 @@
 // The words of a window, and what stands where.
-ghost use Rattle.std.specs.Prelude.{◌≡◌, ◌≤◌, length, get_or, replicate};
+ghost use Rattle.std.specs.Prelude.{◌≡◌, ◌≤◌, length, get_or};
 ghost use Rattle.column_window.specs.Words.{window_words, opened_words};
 
 // How many labels the window's span has.
@@ -25,20 +25,7 @@ pub const WORDS: usize = BLOCK + SPAN_MAX as usize;
 pub fn word_at(window: &[u32], at: usize) -> u32
     ensures { result ≡ get_or window.now at 0 }
 {
-    if at < window.len() {
-        return window[at];
-    }
-    0
-}
-
-fn fill(words: &mut [u32])
-    ensures { words.new ≡ replicate (length words.old) 0 }
-{
-    let mut i: usize = 0;
-    while i < words.len() {
-        words[i] = 0;
-        i += 1;
-    }
+    window.get(at).copied().unwrap_or(0)
 }
 
 // The words of an empty window.
@@ -46,6 +33,6 @@ pub fn clear(window: &mut [u32], span: u32)
     requires { window_words ≤ length window.old }
     ensures { window.new ≡ opened_words window.old span }
 {
-    fill(&mut window[COUNT..WORDS]);
+    window[COUNT..WORDS].fill(0);
     window[SPAN] = span;
 }

@@ -1,7 +1,7 @@
--- The walk that collects a span's runs: one turn, its end, and that runs only grow in number. Assumes nothing.
+-- The walk that collects a span's runs: one turn, its end, and that runs only grow in number; and the runs' bytes. Assumes nothing.
 use Prim.Native.Nat.{ℕ, ◌+◌, ◌*◌, ◌≤◌, ◌<◌}
 use mathlib.Core.Path.{◌≡◌, refl, sym, ap, ◌∙◌}
-use mathlib.Core.Bool.{Bool, true, false, not, cond, ◌&&◌}
+use mathlib.Core.Bool.{Bool, true, false, cond}
 use mathlib.Core.List.{List, [], ◌∷◌, ◌++◌, foldl, foldl-append, flat_map, append-nil, append_assoc}
 use native.Mathlib.Numerals.{add-one}
 use native.Mathlib.Nat.{le_refl}
@@ -11,7 +11,7 @@ use lib.Ieee.{Float}
 use lib.ListN.{length, get_or, take, drop, length-append, take-append-drop}
 use lib.Seq.{take-suc, take_all}
 use borrow.Author.Tests.{lt-ltb, le-ltb}
-use Rattle.spec.specs.Single.{◌+ᶠ◌}
+use Rattle.std.specs.Prelude.{Option, Some, None, option_to_list}
 use Rattle.spec.specs.declared.Span.{Span}
 use Rattle.spec.specs.declared.Run.{Run}
 use Rattle.spec.specs.declared.Cluster.{Cluster}
@@ -22,52 +22,31 @@ use Rattle.spec_laws.proofs.All.{cond-keeps}
 use Rattle.spec_laws.proofs.AnswerLength.{length-equal, length_run}
 use Rattle.spec_laws.proofs.RunsShared.{span-runs, covered-few}
 use Rattle.wire.specs.Splice.{splice}
-use Rattle.wire.proofs.Splice.{splice-then}
+use Rattle.wire.proofs.Splice.{splice-none, splice-then, length-splice}
 use Rattle.decoration.specs.declared.OpenRun.{OpenRun}
-use Rattle.decoration.specs.Runs.{run_of, no_run, opened, opened_by, ended_since}
-
--- ---- the run goes on, or ends, or none had started
-
-module _ (o : OpenRun) (k : ℕ) (inside relative : Bool) (a : Float) where
-  pub goes_on : (o.started && inside && not relative) ≡ true
-      → record { ended = o.ended; started = o.started; first = o.first; width = o.width +ᶠ a } ≡ opened o k inside relative a
-  unfolding opened
-  goes_on e = rw e
-
-  pub ends-here : (o.started && inside && not relative) ≡ false → o.started ≡ true
-      → record { ended = o.ended + 1; started = inside; first = k; width = a } ≡ opened o k inside relative a
-  unfolding opened
-  ends-here e s = rw (e, s)
-
-  pub starts-here : (o.started && inside && not relative) ≡ false → o.started ≡ false
-      → record { ended = o.ended; started = inside; first = k; width = a } ≡ opened o k inside relative a
-  unfolding opened
-  starts-here e s = rw (e, s)
+use Rattle.decoration.specs.Runs.{no_run, opened, opened_by, ended_since}
 
 -- ---- the definitions' state: the runs that have ended, and the one that has started, if any
 
-unfoldable pub collecting : List Run → OpenRun → Collecting
-collecting rs o = cond o.started (started rs (run_of o.first o.width)) (waiting rs)
+abbrev pub collecting : List Run → Option Run → Collecting
+collecting rs None = waiting rs
+collecting rs (Some r) = started rs r
 
 abbrev pub gone : Collecting → List Run
 gone (waiting rs) = rs
 gone (started rs r) = rs
 
-gone-collecting : (rs : List Run) (o : OpenRun) → gone (collecting rs o) ≡ rs
-unfolding collecting
-gone-collecting rs o = go o.started
-  where
-    go : (b : Bool) → gone (cond b (started rs (run_of o.first o.width)) (waiting rs)) ≡ rs
-    go true = refl
-    go false = refl
+gone-collecting : (rs : List Run) (r : Option Run) → gone (collecting rs r) ≡ rs
+gone-collecting rs None = refl
+gone-collecting rs (Some r) = refl
 
 -- behind a cluster: the run that ended, if one did, is among those that have
-module _ (rs : List Run) (e f : ℕ) (w : Float) (k : ℕ) (a : Float) where
-  abbrev before : Bool → OpenRun
-  before begun = record { ended = e; started = begun; first = f; width = w }
+module _ (rs : List Run) (e k : ℕ) (a : Float) where
+  abbrev before : Option Run → OpenRun
+  before r = record { ended = e; run = r }
 
-  abbrev after : Bool → Bool → Bool → OpenRun
-  after begun inside relative = opened (before begun) k inside relative a
+  abbrev after : Option Run → Bool → Bool → OpenRun
+  after r inside relative = opened (before r) k inside relative a
 
   more : ltb e (e + 1) ≡ true
   more = lt-ltb e (e + 1) (omega arith)
@@ -75,23 +54,22 @@ module _ (rs : List Run) (e f : ℕ) (w : Float) (k : ℕ) (a : Float) where
   none : ltb e e ≡ false
   none = le-ltb e e (le_refl e)
 
-  next-open : (begun inside relative : Bool)
-      → collecting (rs ++ ended_since (before begun) (after begun inside relative)) (after begun inside relative)
-      ≡ cond inside (extend_run k relative a (collecting rs (before begun))) (waiting (ended (collecting rs (before begun))))
-  unfolding collecting opened extend_run ended_since
-  next-open true true true = rw more
-  next-open true true false = rw (none, append-nil rs)
-  next-open true false relative = rw more
-  next-open false true relative = rw (none, append-nil rs)
-  next-open false false relative = rw (none, append-nil rs)
+  next-open : (r : Option Run) (inside relative : Bool) → collecting (rs ++ ended_since (before r) (after r inside relative)) (after r inside relative).run
+      ≡ cond inside (extend_run k relative a (collecting rs r)) (waiting (ended (collecting rs r)))
+  unfolding opened extend_run ended_since
+  next-open (Some r) true true = rw more
+  next-open (Some r) true false = rw (none, append-nil rs)
+  next-open (Some r) false relative = rw more
+  next-open None true relative = rw (none, append-nil rs)
+  next-open None false relative = rw (none, append-nil rs)
 
-  next-count : (begun inside relative : Bool) → e + length (ended_since (before begun) (after begun inside relative)) ≡ (after begun inside relative).ended
+  next-count : (r : Option Run) (inside relative : Bool) → e + length (ended_since (before r) (after r inside relative)) ≡ (after r inside relative).ended
   unfolding opened ended_since
-  next-count true true true = rw more
-  next-count true true false = rw none (omega arith)
-  next-count true false relative = rw more
-  next-count false true relative = rw none (omega arith)
-  next-count false false relative = rw none (omega arith)
+  next-count (Some r) true true = rw more
+  next-count (Some r) true false = rw none (omega arith)
+  next-count (Some r) false relative = rw more
+  next-count None true relative = rw none (omega arith)
+  next-count None false relative = rw none (omega arith)
 
 -- ---- the walk
 
@@ -129,15 +107,14 @@ module _ (s : Span) (cs : List Cluster) where
   gone_to i = gone (walk_to i).runs
 
   pub record Walked (i : ℕ) (o : OpenRun) : Type 0 where
-    pub state : walk_to i ≡ record { place = i; runs = collecting (gone_to i) o }
+    pub state : walk_to i ≡ record { place = i; runs = collecting (gone_to i) o.run }
     pub count : length (gone_to i) ≡ o.ended
 
   pub walked_start : Walked 0 no_run
-  unfolding collecting
   walked_start = record { state = refl; count = refl }
 
   -- never more than there are in the end, and these no more than clusters
-  pub gone-within : (i : ℕ) → length (gone_to i) ≤ length (collect_decoration_spans s cs)
+  gone-within : (i : ℕ) → length (gone_to i) ≤ length (collect_decoration_spans s cs)
   unfolding collect_decoration_spans
   gone-within i =
       let all : foldl (collect_next s) (walk_to i) (drop i cs) ≡ foldl (collect_next s) start cs =
@@ -147,47 +124,51 @@ module _ (s : Span) (cs : List Cluster) where
   pub runs-few : length (collect_decoration_spans s cs) ≤ length cs
   runs-few = omega (arith, span-runs s cs, covered-few s cs)
 
-  module _ (i : ℕ) (o o' : OpenRun) (w : Walked i o) where
-    abbrev gone_now : List Run
-    gone_now = gone_to i ++ ended_since o o'
+  module _ (i : ℕ) (o : OpenRun) (w : Walked i o) where
+    pub few-ended : o.ended ≤ length cs
+    few-ended = omega (arith, w.count, gone-within i, runs-few)
 
-    -- behind cluster i
-    module _ (d : Cluster) (h : i < length cs) (e : o' ≡ opened_by s o i (get_or cs i d)) where
-      walk_turn : walk_to (i + 1) ≡ record { place = i + 1; runs = collecting gone_now o' }
-      unfolding collect_next
-      walk_turn =
-          let c = get_or cs i d in
-          rw (add-one i, take-suc cs i d h) (foldl-append (collect_next s) start (take i cs) (c ∷ []))
-          ∙ ap (λ (st : Walking). collect_next s st c) w.state
-          ∙ ap (λ (runs : Collecting). record { place = i + 1; runs = runs })
-          (rw e (sym (next-open (gone_to i) o.ended o.first o.width i c.advance o.started (span_contains s c.index) c.relative)))
+    module _ (o' : OpenRun) where
+      abbrev gone_now : List Run
+      gone_now = gone_to i ++ ended_since o o'
 
-      pub gone-turn : gone_to (i + 1) ≡ gone_now
-      gone-turn = ap (λ (st : Walking). gone st.runs) walk_turn ∙ gone-collecting gone_now o'
+      -- behind cluster i
+      module _ (d : Cluster) (h : i < length cs) (e : o' ≡ opened_by s o i (get_or cs i d)) where
+        walk_turn : walk_to (i + 1) ≡ record { place = i + 1; runs = collecting gone_now o'.run }
+        unfolding collect_next
+        walk_turn =
+            let c = get_or cs i d in
+            rw (add-one i, take-suc cs i d h) (foldl-append (collect_next s) start (take i cs) (c ∷ []))
+            ∙ ap (λ (st : Walking). collect_next s st c) w.state
+            ∙ ap (λ (runs : Collecting). record { place = i + 1; runs = runs })
+            (rw e (sym (next-open (gone_to i) o.ended i c.advance o.run (span_contains s c.index) c.relative)))
 
-      pub walked-turn : Walked (i + 1) o'
-      walked-turn =
-          let c = get_or cs i d in
-          let more = rw (← e) at (next-count (gone_to i) o.ended o.first o.width i c.advance o.started (span_contains s c.index) c.relative) in
-          record {
-            state = walk_turn ∙ ap (λ (rs : List Run). record { place = i + 1; runs = collecting rs o' }) (sym gone-turn);
-            count = ap length gone-turn ∙ length-append (gone_to i) (ended_since o o') ∙ omega (arith, w.count, more);
-          }
+        pub gone-turn : gone_to (i + 1) ≡ gone_now
+        gone-turn = ap (λ (st : Walking). gone st.runs) walk_turn ∙ gone-collecting gone_now o'.run
 
-    -- behind the last one
-    module _ (h : length cs ≤ i) (k : ℕ) (relative : Bool) (a : Float) (e : o' ≡ opened o k false relative a) where
-      pub walked_end : collect_decoration_spans s cs ≡ gone_now
-      unfolding collect_decoration_spans
-      walked_end =
-          ap (λ (xs : List Cluster). ended (foldl (collect_next s) start xs).runs) (sym (take_all i cs h))
-          ∙ ap (λ (st : Walking). ended st.runs) w.state
-          ∙ sym (ap gone (rw (← e) at (next-open (gone_to i) o.ended o.first o.width k a o.started false relative)))
-          ∙ gone-collecting gone_now o'
+        pub walked-turn : Walked (i + 1) o'
+        walked-turn =
+            let c = get_or cs i d in
+            let more = rw (← e) at (next-count (gone_to i) o.ended i c.advance o.run (span_contains s c.index) c.relative) in
+            record {
+              state = walk_turn ∙ ap (λ (rs : List Run). record { place = i + 1; runs = collecting rs o'.run }) (sym gone-turn);
+              count = ap length gone-turn ∙ length-append (gone_to i) (ended_since o o') ∙ omega (arith, w.count, more);
+            }
 
-      pub count-end : length (collect_decoration_spans s cs) ≡ o'.ended
-      count-end =
-          let more = rw (← e) at (next-count (gone_to i) o.ended o.first o.width k a o.started false relative) in
-          ap length walked_end ∙ length-append (gone_to i) (ended_since o o') ∙ omega (arith, w.count, more)
+      -- behind the last one
+      module _ (h : length cs ≤ i) (k : ℕ) (relative : Bool) (a : Float) (e : o' ≡ opened o k false relative a) where
+        pub walked_end : collect_decoration_spans s cs ≡ gone_now
+        unfolding collect_decoration_spans
+        walked_end =
+            ap (λ (xs : List Cluster). ended (foldl (collect_next s) start xs).runs) (sym (take_all i cs h))
+            ∙ ap (λ (st : Walking). ended st.runs) w.state
+            ∙ sym (ap gone (rw (← e) at (next-open (gone_to i) o.ended k a o.run false relative)))
+            ∙ gone-collecting gone_now o'.run
+
+        pub count-end : length (collect_decoration_spans s cs) ≡ o'.ended
+        count-end =
+            let more = rw (← e) at (next-count (gone_to i) o.ended k a o.run false relative) in
+            ap length walked_end ∙ length-append (gone_to i) (ended_since o o') ∙ omega (arith, w.count, more)
 
 -- ---- runs behind runs
 
@@ -199,7 +180,7 @@ flat_map-append f (x ∷ xs) ys = ap (λ l. f x ++ l) (flat_map-append f xs ys) 
 pub length_runs : (runs : List Run) → length (flat_map run_bytes runs) ≡ run_size * length runs
 length_runs = length-equal run_bytes run_size length_run
 
-pub runs-put : (old : List ℕ) (at : ℕ) (rs es : List Run) {out out' : List ℕ} {n : ℕ} → length rs ≡ n → at + run_size * length (rs ++ es) ≤ length old
+runs-put : (old : List ℕ) (at : ℕ) (rs es : List Run) {out out' : List ℕ} {n : ℕ} → length rs ≡ n → at + run_size * length (rs ++ es) ≤ length old
     → out ≡ splice old at (flat_map run_bytes rs) → out' ≡ splice out (at + run_size * n) (flat_map run_bytes es) → out' ≡ splice old at (flat_map run_bytes (rs ++ es))
 runs-put old at rs es n room p q =
     let l = length-append rs es in
@@ -209,10 +190,65 @@ runs-put old at rs es n room p q =
 -- one run has ended, or none
 
 module _ (o next : OpenRun) where
-  pub one_ended : o.ended < next.ended → flat_map run_bytes (ended_since o next) ≡ run_bytes (run_of o.first o.width)
+  pub one_ended : (r : Run) → o.run ≡ Some r → o.ended < next.ended → flat_map run_bytes (ended_since o next) ≡ run_bytes r
   unfolding ended_since flat_map
-  one_ended h = rw (lt-ltb o.ended next.ended h) (append-nil (run_bytes (run_of o.first o.width)))
+  one_ended r e h = rw (lt-ltb o.ended next.ended h, e) (append-nil (run_bytes r))
 
   pub none-ended : next.ended ≤ o.ended → flat_map run_bytes (ended_since o next) ≡ []
   unfolding ended_since flat_map
   none-ended h = rw (le-ltb o.ended next.ended h)
+
+  pub none-started : ((r : Run) → o.run ≡ Some r → ⊥) → flat_map run_bytes (ended_since o next) ≡ []
+  unfolding ended_since flat_map
+  none-started none_is = go o.run none_is (ltb o.ended next.ended)
+    where
+      go : (m : Option Run) → ((r : Run) → m ≡ Some r → ⊥) → (b : Bool) → flat_map run_bytes (cond b (option_to_list m) []) ≡ []
+      go None _ true = refl
+      go None _ false = refl
+      go (Some r) none_is b = absurd (none_is r refl)
+
+-- ---- the walk with the bytes
+
+-- before cluster i: the runs that have ended are put, the first of them at `at`
+pub record Written (s : Span) (cs : List Cluster) (old : List ℕ) (at i : ℕ) (o : OpenRun) (out : List ℕ) : Type 0 where
+  pub walked : Walked s cs i o
+  pub long : length out ≡ length old
+  pub bytes : out ≡ splice old at (flat_map run_bytes (gone_to s cs i))
+
+module _ (s : Span) (cs : List Cluster) (old : List ℕ) (at : ℕ) where
+  pub written_start : Written s cs old at 0 no_run old
+  unfolding flat_map
+  written_start = record { walked = walked_start s cs; long = refl; bytes = sym (splice-none old at) }
+
+  abbrev runs : List Run
+  runs = collect_decoration_spans s cs
+
+  module _ (room : at + run_size * length runs ≤ length old) (i : ℕ) (o : OpenRun) {out : List ℕ} (w : Written s cs old at i o out) (o' : OpenRun) where
+    module _ (d : Cluster) (h : i < length cs) (e : o' ≡ opened_by s o i (get_or cs i d)) where
+      next : Walked s cs (i + 1) o'
+      next = walked-turn s cs i o w.walked o' d h e
+
+      pub room-here : at + run_size * o'.ended ≤ length out
+      room-here = omega (arith, room, w.long, next.count, gone-within s cs (i + 1))
+
+      pub written-turn : {out' : List ℕ} → out' ≡ splice out (at + run_size * o.ended) (flat_map run_bytes (ended_since o o')) → Written s cs old at (i + 1) o' out'
+      written-turn {out'} put =
+          let more = gone-turn s cs i o w.walked o' d h e in
+          let fits : at + run_size * length (gone_to s cs i ++ ended_since o o') ≤ length old = rw (← more) (omega (arith, room, gone-within s cs (i + 1))) in
+          let is : out' ≡ splice old at (flat_map run_bytes (gone_to s cs (i + 1))) =
+          rw more (runs-put old at (gone_to s cs i) (ended_since o o') w.walked.count fits w.bytes put) in
+          record {
+            walked = next;
+            long = ap length is ∙ length-splice old at _ (omega (arith, room, length_runs (gone_to s cs (i + 1)), gone-within s cs (i + 1)));
+            bytes = is;
+          }
+
+    module _ (h : length cs ≤ i) (k : ℕ) (relative : Bool) (a : Float) (e : o' ≡ opened o k false relative a) where
+      pub room-last : at + run_size * o'.ended ≤ length out
+      room-last = omega (arith, room, w.long, count-end s cs i o w.walked o' h k relative a e)
+
+      pub written-end : {out' : List ℕ} → out' ≡ splice out (at + run_size * o.ended) (flat_map run_bytes (ended_since o o')) → out' ≡ splice old at (flat_map run_bytes runs)
+      written-end put =
+          let all = walked_end s cs i o w.walked o' h k relative a e in
+          let fits : at + run_size * length (gone_to s cs i ++ ended_since o o') ≤ length old = rw (← all) room in
+          rw all (runs-put old at (gone_to s cs i) (ended_since o o') w.walked.count fits w.bytes put)

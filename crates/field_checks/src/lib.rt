@@ -19,6 +19,7 @@ pub const SMALLEST_SIZE: f32 = 0.0625;
 
 pub const LARGEST_SIZE: f32 = 4096.0;
 
+#[tactic(auto, unfolding(spec::specs::Check::float_ok))]
 pub fn float_ok(x: f32) -> bool
     ensures { result ≡ float_ok x }
 {
@@ -26,15 +27,14 @@ pub fn float_ok(x: f32) -> bool
 }
 
 // A value that is there by a flag, and four zero bytes where the flag is clear.
+#[tactic(auto, unfolding(spec::specs::Check::flagged_ok, spec::specs::Single::is_zero_bits))]
 pub fn flagged_ok(here: bool, x: f32) -> bool
     ensures { result ≡ flagged_ok here x }
 {
-    if here {
-        return float_ok(x);
-    }
-    bits_of(x) == 0
+    if here { float_ok(x) } else { bits_of(x) == 0 }
 }
 
+#[tactic(auto, unfolding(spec::specs::Check::size_ok))]
 pub fn size_ok(x: f32) -> bool
     ensures { result ≡ size_ok x }
 {
@@ -44,15 +44,17 @@ pub fn size_ok(x: f32) -> bool
 pub fn units_ok(n: i32) -> bool
     ensures { result ≡ units_ok n }
 {
-    (-65_535 <= n) & (n <= 65_535)
+    n.unsigned_abs() <= 65_535
 }
 
+#[tactic(auto, unfolding(spec::specs::Check::font_ok, spec::specs::Lists::every))]
 pub fn font_ok(f: Font) -> bool
     ensures { result ≡ font_ok f }
 {
     (0 < f.units) & (0 < f.xheight) & (0 < f.thickness)
 }
 
+#[tactic(auto, unfolding(spec::specs::Check::glyph_ok, spec::specs::Lists::every))]
 pub fn glyph_ok(fonts: usize, g: Glyph) -> bool
     ensures { result ≡ glyph_ok fonts g }
 {
@@ -65,12 +67,14 @@ pub fn glyph_ok(fonts: usize, g: Glyph) -> bool
         & (g.orientation <= 1)
 }
 
+#[tactic(auto, unfolding(spec::specs::Check::shift_ok, spec::specs::Lists::every))]
 pub fn shift_ok(kind: u8, number: f32) -> bool
     ensures { result ≡ shift_ok (record { kind = kind; number = number }) }
 {
     (kind <= 3) & flagged_ok(kind == 3, number)
 }
 
+#[tactic(auto, unfolding(spec::specs::Check::span_ok, spec::specs::Lists::every))]
 pub fn span_ok(fonts: usize, s: Span) -> bool
     ensures { result ≡ span_ok fonts s }
 {

@@ -1,55 +1,39 @@
 // UTF-8: ASCII bytes by blocks, other characters one by one.
-ghost use Rattle.std.specs.Prelude.{◌+◌, ◌<◌, ◌≤◌, ◌≡◌, true, false, ◌&&◌, length, drop};
-ghost use Rattle.spec.specs.Utf8.{within, lead, is_utf8, starts_at};
+ghost use Rattle.std.specs.Prelude.{◌+◌, ◌<◌, ◌≤◌, ◌≡◌, true, false, ◌&&◌, ℕ, List, ◌++◌, length, drop, slice_index, MatchOption};
+ghost use Rattle.std.specs.List.{list_all};
+ghost use Rattle.spec.specs.Utf8.{lead, continues, is_utf8, starts_at};
 ghost use Rattle.field_checks.specs.Skips.{Skips, utf8_after};
 
 use spec::Utf8State;
-use wire::read::byte_at;
 
 // After a character's first byte.
+#[tactic(auto, unfolding(spec::specs::Utf8::lead))]
 pub fn after_lead(b: u8) -> Utf8State
     ensures { result ≡ lead b }
 {
-    if b < 0x80 {
-        return Utf8State::Expecting(0, 0, 0);
+    match b {
+        0x00..=0x7f => Utf8State::Expecting(0, 0, 0),
+        0xc2..=0xdf => Utf8State::Expecting(1, 0x80, 0xbf),
+        0xe0 => Utf8State::Expecting(2, 0xa0, 0xbf),
+        0xed => Utf8State::Expecting(2, 0x80, 0x9f),
+        0xe1..=0xef => Utf8State::Expecting(2, 0x80, 0xbf),
+        0xf0 => Utf8State::Expecting(3, 0x90, 0xbf),
+        0xf1..=0xf3 => Utf8State::Expecting(3, 0x80, 0xbf),
+        0xf4 => Utf8State::Expecting(3, 0x80, 0x8f),
+        _ => Utf8State::Malformed,
     }
-    if (0xc2 <= b) & (b <= 0xdf) {
-        return Utf8State::Expecting(1, 0x80, 0xbf);
-    }
-    if b == 0xe0 {
-        return Utf8State::Expecting(2, 0xa0, 0xbf);
-    }
-    if b == 0xed {
-        return Utf8State::Expecting(2, 0x80, 0x9f);
-    }
-    if (0xe1 <= b) & (b <= 0xef) {
-        return Utf8State::Expecting(2, 0x80, 0xbf);
-    }
-    if b == 0xf0 {
-        return Utf8State::Expecting(3, 0x90, 0xbf);
-    }
-    if (0xf1 <= b) & (b <= 0xf3) {
-        return Utf8State::Expecting(3, 0x80, 0xbf);
-    }
-    if b == 0xf4 {
-        return Utf8State::Expecting(3, 0x80, 0x8f);
-    }
-    Utf8State::Malformed
 }
 
 // The bytes that are looked at together. No test waits for another, so that the compiler makes one of them all.
 const BLOCK: usize = 16;
 
-// The bytes from `start` up to `end` are ASCII.
-fn ascii_between(text: &[u8], start: usize, end: usize) -> bool
-    requires { (start ≤ end) × (end ≤ length text.now) }
-    ensures { result ≡ true → Skips text.now start end }
+// All bytes of a block are ASCII.
+fn all_ascii(block: &[u8]) -> bool
+    ensures { result ≡ true → (k : ℕ) → k < length block.now → slice_index block.now k < 0x80 }
 {
     let mut ascii = true;
-    let mut i = start;
-    while i < end {
-        ascii = ascii & (text[i] < 0x80);
-        i += 1;
+    for b in block {
+        ascii &= *b < 0x80;
     }
     ascii
 }
@@ -60,10 +44,21 @@ fn blocks_end(text: &[u8], start: usize) -> usize
     ensures { Skips text.now start result }
 {
     let mut i = start;
-    while BLOCK <= text.len() - i && ascii_between(text, i, i + BLOCK) {
+    for block in text[start..].chunks_exact(BLOCK) {
+        if !all_ascii(block) {
+            break;
+        }
         i += BLOCK;
     }
     i
+}
+
+// How many ASCII bytes come first.
+fn ascii_len(bytes: &[u8]) -> usize
+    ensures within { result ≤ length bytes.now }
+    ensures ascii { (k : ℕ) → k < result → slice_index bytes.now k < 0x80 }
+{
+    bytes.iter().position(|b| 0x80 <= *b).unwrap_or(bytes.len())
 }
 
 // Past the ASCII bytes from `start` on.
@@ -71,74 +66,61 @@ fn ascii_end(text: &[u8], start: usize) -> usize
     requires { start ≤ length text.now }
     ensures { Skips text.now start result }
 {
-    let mut i = blocks_end(text, start);
-    while i < text.len() && text[i] < 0x80 {
-        i += 1;
-    }
-    i
+    let i = blocks_end(text, start);
+    i + ascii_len(&text[i..])
 }
 
-fn within(low: u8, high: u8, b: u8) -> bool
-    ensures { result ≡ within low high b }
+fn continues(b: u8) -> bool
+    ensures { result ≡ continues b }
 {
-    (low <= b) & (b <= high)
+    (0x80..=0xbf).contains(&b)
 }
 
-// The `n` bytes at `i` are those that a character still expects, the first between two bounds.
-fn continued(text: &[u8], i: usize, n: u8, low: u8, high: u8) -> bool
-    requires { (n ≤ 3) × (i + n ≤ length text.now) }
-    ensures { utf8_after n low high (drop i text.now) ≡ (result && is_utf8 (drop (i + n) text.now)) }
+fn all_continue(bytes: &[u8]) -> bool
+    ensures { result ≡ list_all (λ b. continues b) bytes.now }
 {
-    if n == 0 {
-        return true;
-    }
-    if !within(low, high, text[i]) {
-        return false;
-    }
-    if n == 1 {
-        return true;
-    }
-    if !within(0x80, 0xbf, text[i + 1]) {
-        return false;
-    }
-    if n == 2 {
-        return true;
-    }
-    within(0x80, 0xbf, text[i + 2])
+    bytes.iter().all(|b| continues(*b))
 }
 
-// Past the character at `i`, or `i` where none is.
-fn character_end(text: &[u8], i: usize) -> usize
+// These bytes are those that a character still expects, the first between two bounds.
+fn are_expected(bytes: &[u8], low: u8, high: u8) -> bool
+    ensures { (rest : List ℕ) → utf8_after (length bytes.now) low high (bytes.now ++ rest) ≡ (result && is_utf8 rest) }
+{
+    match bytes {
+        [] => true,
+        [first, others @ ..] => (low..=high).contains(first) && all_continue(others),
+    }
+}
+
+// Past the character at `i`, if one is there.
+fn character_end(text: &[u8], i: usize) -> Option<usize>
     requires { i < length text.now }
-    ensures { Skips text.now i result × (result ≡ i → is_utf8 (drop i text.now) ≡ false) }
+    ensures { MatchOption result (is_utf8 (drop i text.now) ≡ false) (λ end. Skips text.now i end × (i < end)) }
 {
     match after_lead(text[i]) {
-        Utf8State::Malformed => i,
+        Utf8State::Malformed => None,
         Utf8State::Expecting(n, low, high) => {
-            let more = n as usize;
-            if text.len() - i <= more {
-                return i;
-            }
-            if continued(text, i + 1, n, low, high) {
-                return i + 1 + more;
-            }
-            i
+            let more = usize::from(n);
+            let bytes = text[i + 1..].get(..more)?;
+            are_expected(bytes, low, high).then_some(i + 1 + more)
         }
     }
 }
 
+// Not the library's `from_utf8`: it promises that the bytes are characters' codes, and document 01's definition walks them. To tie the two takes
+// a longer proof than these functions have.
 pub fn is_utf8(text: &[u8]) -> bool
     ensures { result ≡ is_utf8 text.now }
 {
+    // A `while`: the place moves by what is found there, for which no iterator is plainer.
     let mut i: usize = 0;
     while i < text.len() {
         if text[i] < 0x80 {
             i = ascii_end(text, i + 1);
         } else {
-            let end = character_end(text, i);
-            if end == i {
+            let Some(end) = character_end(text, i) else {
                 return false;
-            }
+            };
             i = end;
         }
     }
@@ -146,9 +128,9 @@ pub fn is_utf8(text: &[u8]) -> bool
 }
 
 // A character starts at byte `i`.
+#[tactic(auto, unfolding(spec::specs::Utf8::starts_at))]
 pub fn starts_at(text: &[u8], i: usize) -> bool
     ensures { result ≡ starts_at text.now i }
 {
-    let b = byte_at(text, i);
-    (i < text.len()) & !((0x80 <= b) & (b <= 0xbf))
+    text.get(i).is_some_and(|b| !continues(*b))
 }

@@ -15,22 +15,10 @@ use spec::Font;
 pub fn scale(units: u16, size: f32) -> f32
     ensures { result ≡ size /ᶠ of_nat units }
 {
-    size / (units as f32)
+    size / f32::from(units)
 }
 
 // ---- `z` font units
-
-pub fn measure_i16(font: Font, size: f32, z: i16) -> f32
-    ensures { result ≡ measure rounded font size z }
-{
-    z as f32 * scale(font.units, size)
-}
-
-pub fn measure_u16(font: Font, size: f32, z: u16) -> f32
-    ensures { result ≡ measure rounded font size (pos z) }
-{
-    z as f32 * scale(font.units, size)
-}
 
 // For a glyph's width, which is within these bounds in a checked job: a cast is taken only of a whole number that is a float.
 // `by` is a scale.
@@ -51,16 +39,24 @@ pub fn measure_units(units: u16, size: f32, z: i32) -> f32
 
 // ---- the measures of a font row
 
+// Every field of a row is within the bounds, signed or not.
+fn measure(font: Font, size: f32, z: i32) -> f32
+    requires { nat_abs z ≤ 65_535 }
+    ensures { result ≡ measure rounded font size z }
+{
+    measure_units(font.units, size, z)
+}
+
 pub fn ascent(font: Font, size: f32) -> f32
     ensures { result ≡ ascent_of font size }
 {
-    measure_i16(font, size, font.ascent)
+    measure(font, size, i32::from(font.ascent))
 }
 
 pub fn descent(font: Font, size: f32) -> f32
     ensures { result ≡ descent_of font size }
 {
-    measure_i16(font, size, font.descent)
+    measure(font, size, i32::from(font.descent))
 }
 
 pub fn height(font: Font, size: f32) -> f32
@@ -72,35 +68,35 @@ pub fn height(font: Font, size: f32) -> f32
 pub fn x_height(font: Font, size: f32) -> f32
     ensures { result ≡ x_height_of font size }
 {
-    measure_u16(font, size, font.xheight)
+    measure(font, size, i32::from(font.xheight))
 }
 
 pub fn underline_position(font: Font, size: f32) -> f32
     ensures { result ≡ measure rounded font size font.underline }
 {
-    measure_i16(font, size, font.underline)
+    measure(font, size, i32::from(font.underline))
 }
 
 pub fn underline_thickness(font: Font, size: f32) -> f32
     ensures { result ≡ measure rounded font size (pos font.thickness) }
 {
-    measure_u16(font, size, font.thickness)
+    measure(font, size, i32::from(font.thickness))
 }
 
 pub fn line_through_position(font: Font, size: f32) -> f32
     ensures { result ≡ measure rounded font size font.through }
 {
-    measure_i16(font, size, font.through)
+    measure(font, size, i32::from(font.through))
 }
 
 pub fn subscript_offset(font: Font, size: f32) -> f32
     ensures { result ≡ measure rounded font size font.subscript }
 {
-    measure_i16(font, size, font.subscript)
+    measure(font, size, i32::from(font.subscript))
 }
 
 pub fn superscript_offset(font: Font, size: f32) -> f32
     ensures { result ≡ measure rounded font size font.superscript }
 {
-    measure_i16(font, size, font.superscript)
+    measure(font, size, i32::from(font.superscript))
 }

@@ -1,5 +1,5 @@
 pub mod Orders
-pub mod Last
+pub mod Passing
 pub mod Places
 pub mod Tests
 pub mod Verdicts

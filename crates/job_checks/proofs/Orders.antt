@@ -1,5 +1,5 @@
 -- Spans in order: one turn and the end of the walk over them. Assumes nothing.
-use Prim.Native.Nat.{ℕ, zero, suc, ◌+◌, ◌-◌, ◌<◌, ◌≤◌, min}
+use Prim.Native.Nat.{ℕ, zero, suc, ◌-◌, ◌<◌, ◌≤◌}
 use mathlib.Core.Path.{◌≡◌, refl, sym, ap, ◌∙◌}
 use mathlib.Core.Bool.{Bool, true, false, ◌&&◌}
 use mathlib.Core.List.{List, ◌∷◌, map}
@@ -9,7 +9,6 @@ use Rattle.spec.specs.Bytes.{be, rows}
 use Rattle.spec.specs.Job.{SpanParts}
 use Rattle.spec.specs.Decode.{span_size, span_of, parts_of, span_count, span_bytes, chunk_of}
 use Rattle.spec.specs.Check.{ordered, spans_ok}
-use Rattle.wire.proofs.Places.{after-drops}
 use Rattle.job_rows.proofs.Walks.{rows-turn, rows-done}
 
 -- a span from `start` to `end` stands behind `from`, in a text of n bytes
@@ -20,25 +19,24 @@ pub ordered-done : (n from left : ℕ) (bs : List ℕ) → left ≤ 0 → ordere
 unfolding ordered
 ordered-done n from left bs h = rw (rows-done span_size span_of left bs h)
 
--- the walk stands at p of s; the span there begins with the bytes `span`
-module _ (n from start end left p : ℕ) (s span : List ℕ) (span-is : span ≡ drop p s) (start_is : start ≡ be 2 span) (end_is : end ≡ be 2 (drop 2 span)) (h : 0 < left) where
-  turn : ordered n from (rows span_size span_of left (drop p s)) ≡ (in_order n from start end && ordered n end (rows span_size span_of (left - 1) (drop (span_size (drop p s)) (drop p s))))
+-- the walk stands at a span, which the bytes bs begin with
+module _ (n from start end left : ℕ) (bs : List ℕ) (start_is : start ≡ be 2 bs) (end_is : end ≡ be 2 (drop 2 bs)) (h : 0 < left) where
+  turn : ordered n from (rows span_size span_of left bs) ≡ (in_order n from start end && ordered n end (rows span_size span_of (left - 1) (drop (span_size bs) bs)))
   unfolding ordered span_of
-  turn = rw (rows-turn span_size span_of left (drop p s) h, start_is, end_is, span-is)
+  turn = rw (rows-turn span_size span_of left bs h, start_is, end_is)
 
-  pub ordered-stop : in_order n from start end ≡ false → ordered n from (rows span_size span_of left (drop p s)) ≡ false
-  ordered-stop fails = turn ∙ ap (λ b. b && ordered n end (rows span_size span_of (left - 1) (drop (span_size (drop p s)) (drop p s)))) fails
+  pub ordered-stop : in_order n from start end ≡ false → false ≡ ordered n from (rows span_size span_of left bs)
+  ordered-stop fails = rw (turn, fails) refl
 
-  pub ordered-on : in_order n from start end ≡ true → (k q : ℕ) → k ≡ span_size span → q ≡ min (p + k) (length s)
-      → ordered n end (rows span_size span_of (left - 1) (drop q s)) ≡ ordered n from (rows span_size span_of left (drop p s))
-  ordered-on passes k q k-is q-is = rw (turn, passes, after-drops p k s q-is, k-is, span-is)
+  pub ordered-on : in_order n from start end ≡ true → ordered n end (rows span_size span_of (left - 1) (drop (span_size bs) bs)) ≡ ordered n from (rows span_size span_of left bs)
+  ordered-on passes = rw (turn, passes) refl
 
   -- no place is taken behind the last
-  pub ordered-last : in_order n from start end ≡ true → left - 1 ≤ 0 → ordered n end (rows span_size span_of (left - 1) (drop p s)) ≡ ordered n from (rows span_size span_of left (drop p s))
+  pub ordered-last : in_order n from start end ≡ true → left - 1 ≤ 0 → ordered n end (rows span_size span_of (left - 1) bs) ≡ ordered n from (rows span_size span_of left bs)
   ordered-last passes last =
-      ordered-done n end (left - 1) (drop p s) last
-      ∙ sym (ordered-done n end (left - 1) (drop (min (p + span_size span) (length s)) s) last)
-      ∙ ordered-on passes (span_size span) _ refl refl
+      ordered-done n end (left - 1) bs last
+      ∙ sym (ordered-done n end (left - 1) (drop (span_size bs) bs) last)
+      ∙ ordered-on passes
 
 -- the spans of a chunk
 spans-rows : (n : ℕ) (bs : List ℕ) → map (λ (p : SpanParts). p.span) (rows span_size parts_of n bs) ≡ rows span_size span_of n bs

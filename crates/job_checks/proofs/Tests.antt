@@ -9,19 +9,17 @@ use lib.ListN.{length, take, drop, length-drop}
 use lib.Dec.{eqb, leb, ltb}
 use Rattle.spec.specs.Lists.{all, every}
 use Rattle.spec.specs.Bytes.{be, float, sizes, all_records}
-use Rattle.spec.specs.Decode.{font_bytes, glyph_bytes, shift_bytes, float_size, font_of, glyph_of, shift_of, span_of, shift_count, glyph_count_at, glyph_count, span_size, parts_of, text_size, span_count_at, chunk_fits, span_count, span_bytes, chunk_size, chunk_of, list_of, list_fits, font_count, dx_at, dy_at, rotate_at, chunk_count_at, shaped, chunk_count, chunk_bytes, job_of}
+use Rattle.spec.specs.Decode.{font_bytes, glyph_bytes, shift_bytes, float_size, font_of, glyph_of, shift_of, span_of, shift_count, glyph_count_at, glyph_count, span_size, parts_of, text_size, span_count_at, span_fits, chunk_fits, span_count, span_bytes, chunk_size, chunk_of, list_of, list_fits, font_count, dx_at, dy_at, rotate_at, chunk_count_at, shaped, chunk_count, chunk_bytes, job_of}
 use Rattle.spec.specs.declared.Job.{Job}
 use Rattle.spec.specs.Job.{Chunk}
 use Rattle.spec.specs.Utf8.{is_utf8}
 use Rattle.spec.specs.Check.{after_version, float_ok, flagged_ok, font_ok, glyph_ok, shift_ok, span_ok, parts_ok, chunk_ok, values_ok, text_ok}
 use Rattle.spec_laws.proofs.Records.{length-rows}
-use Rattle.job_checks.specs.Walk.{index_ok, span_passes, chunk_passes, counts_fit, lists_ok}
+use Rattle.job_checks.specs.Walk.{index_ok, counts_fit, lists_ok}
 use Rattle.job_checks.specs.Verdict.{places_of}
 use Rattle.job_checks.specs.Checks.{Found}
 use Rattle.job_checks.proofs.Places.{behind-version}
 use Rattle.job_rows.specs.Head.{head_of}
-use Rattle.job_checks.specs.declared.walk.SpanCheck.TheVariants as S
-use Rattle.job_checks.specs.declared.walk.ChunkCheck.TheVariants as C
 use Rattle.job_rows.proofs.Walks.{all-each, rows_empty}
 
 pub list-test : (bs : List ℕ) → all float_ok (list_of bs) ≡ all_records (λ b. float_size) (λ b. float_ok (float b)) (be 2 bs) (drop 2 bs)
@@ -42,25 +40,25 @@ parts-test fonts bs =
     )
     (simp (and_assoc, and-true))
 
-pub chunk-test : (fonts : ℕ) (text bs : List ℕ) → chunk_ok fonts (chunk_of bs)
+pub chunk-test : (fonts : ℕ) (bs : List ℕ) → chunk_ok fonts (chunk_of bs)
     ≡ (leb (head_of bs).flags 3
     && flagged_ok (eqb ((head_of bs).flags % 2) 1) (head_of bs).x
     && flagged_ok (eqb ((head_of bs).flags / 2 % 2) 1) (head_of bs).y
     && leb (head_of bs).anchor 2
     && eqb (head_of bs).flow 0
-    && all_records span_size (span_passes S.Values fonts text) (head_of bs).spans (span_bytes bs))
+    && all_records span_size (λ b. parts_ok fonts (parts_of b)) (head_of bs).spans (span_bytes bs))
 unfolding chunk_ok chunk_of every head_of
-chunk-test fonts text bs = rw (all-each span_size parts_of (parts_ok fonts) (span_count bs) (span_bytes bs)) (simp (and_assoc, and-true))
+chunk-test fonts bs = rw (all-each span_size parts_of (parts_ok fonts) (span_count bs) (span_bytes bs)) (simp (and_assoc, and-true))
 
-pub fit-test : (text bs : List ℕ) → chunk_fits bs
+pub fit-test : (bs : List ℕ) → chunk_fits bs
     ≡ (leb (text_size bs) 4096
     && leb (span_count bs) 32
     && leb (span_count_at bs + 1) (length bs)
-    && all_records span_size (span_passes S.Shape 0 text) (span_count bs) (span_bytes bs))
+    && all_records span_size span_fits (span_count bs) (span_bytes bs))
 unfolding chunk_fits every
-fit-test text bs = simp (and_assoc, and-true)
+fit-test bs = simp (and_assoc, and-true)
 
-pub text-test : (bs : List ℕ) → text_ok (chunk_of bs) ≡ (is_utf8 (chunk_of bs).text && all_records span_size (span_passes S.Text 0 (chunk_of bs).text) (span_count bs) (span_bytes bs))
+pub text-test : (bs : List ℕ) → text_ok (chunk_of bs) ≡ (is_utf8 (chunk_of bs).text && all_records span_size (λ b. all (index_ok (chunk_of bs).text) (parts_of b).glyphs) (span_count bs) (span_bytes bs))
 unfolding text_ok chunk_of
 text-test bs = rw (all-each span_size parts_of (λ p. all (index_ok (take (text_size bs) (drop 13 bs))) p.glyphs) (span_count bs) (span_bytes bs))
 
@@ -90,7 +88,7 @@ module _ (s : List ℕ) where
 
   pub shape-test : shaped rest
       ≡ (counts_fit rest
-      && all_records chunk_size (chunk_passes C.Shape 0) (chunk_count rest) (chunk_bytes rest)
+      && all_records chunk_size chunk_fits (chunk_count rest) (chunk_bytes rest)
       && (ltb (places_of s).chunks (length s) && eqb (sizes chunk_size (chunk_count rest) (chunk_bytes rest)) (length (chunk_bytes rest))))
   unfolding shaped counts_fit every places_of chunk_bytes
   shape-test = rw (ends-test s (chunk_count_at rest) (sizes chunk_size (chunk_count rest) (chunk_bytes rest))) (simp (and_assoc, and-true))
@@ -103,7 +101,7 @@ module _ (s : List ℕ) where
       ≡ (leb (places_of s).mode 1
       && all_records (λ b. font_bytes) (λ b. font_ok (font_of b)) (places_of s).fonts (drop 7 s)
       && lists_ok (job_of rest)
-      && all_records chunk_size (chunk_passes C.Values (places_of s).fonts) (chunk_count rest) (chunk_bytes rest))
+      && all_records chunk_size (λ b. chunk_ok (places_of s).fonts (chunk_of b)) (chunk_count rest) (chunk_bytes rest))
   unfolding values_ok job_of every places_of
   values-test =
       rw (

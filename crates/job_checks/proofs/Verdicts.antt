@@ -15,8 +15,7 @@ use Rattle.spec.specs.Job as J
 use Rattle.spec.specs.Decode.{job_of}
 use Rattle.spec.specs.Check.{checks, checked, after_version}
 use Rattle.spec.specs.declared.Job.{Job}
-use Rattle.job_checks.specs.Verdict.{verdict_number, places_of, verdict_after, verdict_of}
-use Rattle.job_checks.specs.declared.check.Checked.TheVariants.{Accepted, Refused}
+use Rattle.job_checks.specs.Verdict.{verdict_number, places_of, verdict_of}
 
 -- the highest number of a check
 abbrev pub highest : ℕ
@@ -36,46 +35,44 @@ first-numbered bs n e =
     let t = subst Numbered e (first-keeps Numbered checks bs tt (all_of (λ (c : Check (List ℕ)). is_number c.number) checks tt)) in
     (ltb→lt 0 n (and_l (ltb 0 n) (leb n highest) t), leb→le n highest (and_r (ltb 0 n) (leb n highest) t))
 
--- what `checked` and the answer make of the first check that fails
+-- a value where no check fails: whether it is given, and which refusal there is, is one for all values
+abbrev after : {A : Type 0} → A → Outcome (Unit {0}) → Outcome A
+after a o = and_then o (λ (passed : Unit {0}). given a)
+
+first-refused : {A : Type 0} (a : A) (o : Outcome (Unit {0})) (n : ℕ) → after a o ≡ refused n → o ≡ refused n
+unfolding and_then
+first-refused a (refused m) n e = let same : m ≡ n = cc in ap refused same
+first-refused a (given u) n e = cc
+
+module _ {A B : Type 0} (a : A) (b : B) where
+  same-given : (o : Outcome (Unit {0})) (x : A) → after a o ≡ given x → after b o ≡ given b
+  unfolding and_then
+  same-given (refused n) x e = cc
+  same-given (given u) x e = refl
+
+  same-refused : (o : Outcome (Unit {0})) (n : ℕ) → after a o ≡ refused n → after b o ≡ refused n
+  unfolding and_then
+  same-refused o n e = ap (after b) (first-refused a o n e)
+
 module _ (bs : List ℕ) where
-  abbrev after : Outcome (Unit {0}) → Outcome J.Job
-  after o = and_then o (λ (passed : Unit {0}). given (job_of (after_version bs)))
+  abbrev job : J.Job
+  job = job_of (after_version bs)
 
-  given-answer : (o : Outcome (Unit {0})) (j : J.Job) → after o ≡ given j → verdict_after o bs ≡ Accepted (places_of bs)
-  unfolding and_then verdict_after
-  given-answer (refused n) j e = let z : ◌≡◌ {A = ℕ} 0 1 = cc in absurd (omega arith)
-  given-answer (given u) j e = refl
-
-  refused-answer : (o : Outcome (Unit {0})) (n : ℕ) → after o ≡ refused n → verdict_after o bs ≡ Refused n
-  unfolding and_then verdict_after
-  refused-answer (refused m) n e = let same : m ≡ n = cc in ap Refused same
-  refused-answer (given u) n e = let z : ◌≡◌ {A = ℕ} 0 1 = cc in absurd (omega arith)
-
-  answer-given : (o : Outcome (Unit {0})) (p : Job) → verdict_after o bs ≡ Accepted p → after o ≡ given (job_of (after_version bs))
-  unfolding and_then verdict_after
-  answer-given (refused n) p e = let z : ◌≡◌ {A = ℕ} 0 1 = cc in absurd (omega arith)
-  answer-given (given u) p e = refl
-
-  first-refused : (o : Outcome (Unit {0})) (n : ℕ) → verdict_after o bs ≡ Refused n → o ≡ refused n
-  unfolding verdict_after
-  first-refused (refused m) n e = let same : m ≡ n = cc in ap refused same
-  first-refused (given u) n e = let z : ◌≡◌ {A = ℕ} 0 1 = cc in absurd (omega arith)
-
-  pub accepted-where-given : (j : J.Job) → checked bs ≡ given j → verdict_of bs ≡ Accepted (places_of bs)
+  pub accepted-where-given : (j : J.Job) → checked bs ≡ given j → verdict_of bs ≡ given (places_of bs)
   unfolding checked verdict_of
-  accepted-where-given = given-answer (first_failing checks bs)
+  accepted-where-given = same-given job (places_of bs) (first_failing checks bs)
 
-  pub refused-where-refused : (n : ℕ) → checked bs ≡ refused n → verdict_of bs ≡ Refused n
+  pub refused-where-refused : (n : ℕ) → checked bs ≡ refused n → verdict_of bs ≡ refused n
   unfolding checked verdict_of
-  refused-where-refused = refused-answer (first_failing checks bs)
+  refused-where-refused = same-refused job (places_of bs) (first_failing checks bs)
 
-  pub given-where-accepted : (p : Job) → verdict_of bs ≡ Accepted p → checked bs ≡ given (job_of (after_version bs))
+  pub given-where-accepted : (p : Job) → verdict_of bs ≡ given p → checked bs ≡ given job
   unfolding checked verdict_of
-  given-where-accepted = answer-given (first_failing checks bs)
+  given-where-accepted = same-given (places_of bs) job (first_failing checks bs)
 
-  pub refusal-where-refused : (n : ℕ) → verdict_of bs ≡ Refused n → checked bs ≡ refused n
-  unfolding checked verdict_of and_then
-  refusal-where-refused n e = ap after (first-refused (first_failing checks bs) n e)
+  pub refusal-where-refused : (n : ℕ) → verdict_of bs ≡ refused n → checked bs ≡ refused n
+  unfolding checked verdict_of
+  refusal-where-refused = same-refused (places_of bs) job (first_failing checks bs)
 
   -- document 01's number
   pub number-where-given : (j : J.Job) → checked bs ≡ given j → verdict_number (verdict_of bs) ≡ 0
@@ -87,15 +84,14 @@ module _ (bs : List ℕ) where
   number-where-refused n e = ap verdict_number (refused-where-refused n e)
 
   -- a refusal has a number from 1 to the highest, so 0 says that the job is accepted
-  pub refusal-numbered : (n : ℕ) → verdict_of bs ≡ Refused n → (0 < n) × (n ≤ highest)
+  pub refusal-numbered : (n : ℕ) → verdict_of bs ≡ refused n → (0 < n) × (n ≤ highest)
   unfolding verdict_of
-  refusal-numbered n e = first-numbered bs n (first-refused (first_failing checks bs) n e)
+  refusal-numbered n e = first-numbered bs n (first-refused (places_of bs) (first_failing checks bs) n e)
 
-  zero-accepted : (o : Outcome (Unit {0})) → ((n : ℕ) → o ≡ refused n → 0 < n) → verdict_number (verdict_after o bs) ≡ 0 → verdict_after o bs ≡ Accepted (places_of bs)
-  unfolding verdict_number verdict_after
-  zero-accepted (refused n) h e = absurd (omega (arith, h n refl))
-  zero-accepted (given u) h e = refl
-
-  pub accepted-where-zero : verdict_number (verdict_of bs) ≡ 0 → verdict_of bs ≡ Accepted (places_of bs)
-  unfolding verdict_of
-  accepted-where-zero = zero-accepted (first_failing checks bs) (λ n e. (first-numbered bs n e).0)
+  pub accepted-where-zero : verdict_number (verdict_of bs) ≡ 0 → verdict_of bs ≡ given (places_of bs)
+  unfolding verdict_number verdict_of and_then
+  accepted-where-zero = zero (first_failing checks bs) (λ n e. (first-numbered bs n e).0)
+    where
+      zero : (o : Outcome (Unit {0})) → ((n : ℕ) → o ≡ refused n → 0 < n) → verdict_number (after (places_of bs) o) ≡ 0 → after (places_of bs) o ≡ given (places_of bs)
+      zero (refused n) h e = absurd (omega (arith, h n refl))
+      zero (given u) h e = refl

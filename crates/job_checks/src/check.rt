@@ -1,14 +1,12 @@
 // The checks of a job in their order, each over the whole job before the next.
-ghost use Rattle.std.specs.Prelude.{◌≡◌};
+ghost use Rattle.std.specs.Prelude.{◌≡◌, cond, Ok, Err};
+ghost use Rattle.spec.specs.Refusal.{outcome_of};
 ghost use Rattle.spec.specs.Check.{length_ok, version_ok};
 ghost use Rattle.job_checks.specs.Verdict.{verdict_number, places_of, verdict_of};
-ghost use Rattle.job_checks.specs.Checks.{Found, job_passes};
+ghost use Rattle.job_checks.specs.Checks.{Found};
 
-use crate::shape::is_shaped;
-use crate::values::values_ok;
-use crate::walk::{ChunkCheck, chunks_pass};
 use job_rows::sizes::{CHUNK_COUNT_BYTES, FONT_BYTES, FONTS_AT, font_count, list_size};
-use spec::Job;
+use spec::{Job, Refusal};
 use wire::read::{byte_at, u8_at, u32_at};
 use wire::slice::tail;
 
@@ -19,37 +17,7 @@ pub const JOB_VERSION: u8 = 1;
 
 pub const AFTER_VERSION: usize = VERSION_AT + 1;
 
-// The job that a record holds, or the number of the first check that the record does not pass.
-#[derive(Clone, Copy)]
-pub enum Checked {
-    Accepted(Job),
-    Refused(u8),
-}
-
-// What is tested of a record; and a test with its number.
-#[derive(Clone, Copy)]
-pub enum JobCheck {
-    Length,
-    Version,
-    Shape,
-    Values,
-    Text,
-    Spans,
-}
-
-#[derive(Clone, Copy)]
-pub struct Listed(pub JobCheck, pub u8);
-
-// The checks in their order.
-const CHECKS: [Listed; 6] = [
-    Listed(JobCheck::Length, 1),
-    Listed(JobCheck::Version, 2),
-    Listed(JobCheck::Shape, 3),
-    Listed(JobCheck::Values, 4),
-    Listed(JobCheck::Text, 5),
-    Listed(JobCheck::Spans, 6),
-];
-
+#[tactic(auto, unfolding(spec::specs::Check::length_ok, spec::specs::Lists::every))]
 pub fn length_ok(bytes: &[u8]) -> bool
     ensures { result ≡ length_ok bytes.now }
 {
@@ -60,6 +28,7 @@ pub fn length_ok(bytes: &[u8]) -> bool
     (bytes.len() <= Job::BYTES) & (u32_at(bytes, 0) as usize == rest)
 }
 
+#[tactic(auto, unfolding(spec::specs::Check::version_ok))]
 pub fn version_ok(bytes: &[u8]) -> bool
     ensures { result ≡ version_ok bytes.now }
 {
@@ -86,46 +55,60 @@ pub fn places(bytes: &[u8]) -> Job
     }
 }
 
-// `job` says where the parts of the record stand, `chunks` are the bytes from the first chunk on, and `n` is the chunk count.
-pub fn passes(check: JobCheck, bytes: &[u8], job: Job, chunks: &[u8], n: usize) -> bool
-    requires { Found bytes.now job chunks.now n }
-    ensures { result ≡ job_passes check bytes.now }
-{
-    match check {
-        JobCheck::Length => length_ok(bytes),
-        JobCheck::Version => version_ok(bytes),
-        JobCheck::Shape => is_shaped(bytes, job, chunks, n),
-        JobCheck::Values => values_ok(bytes, job, chunks, n),
-        JobCheck::Text => chunks_pass(ChunkCheck::Text, 0, chunks, n),
-        JobCheck::Spans => chunks_pass(ChunkCheck::Spans, 0, chunks, n),
+// A record and its parts: where they stand, the bytes from the first chunk on, and the chunk count.
+#[derive(Clone, Copy)]
+pub struct JobParts<'a> {
+    pub bytes: &'a [u8],
+    pub job: Job,
+    pub chunks: &'a [u8],
+    pub count: usize,
+    ghost found: { Found bytes.now job chunks.now count },
+}
+
+impl<'a> JobParts<'a> {
+    pub fn of(bytes: &'a [u8]) -> JobParts<'a>
+        ensures { result.bytes.now ≡ bytes.now }
+    {
+        let job = places(bytes);
+        // from the chunk count on
+        let counted = tail(bytes, job.chunks);
+        JobParts {
+            bytes,
+            job,
+            chunks: tail(counted, CHUNK_COUNT_BYTES),
+            count: u8_at(counted, 0) as usize,
+        }
     }
 }
 
-pub fn check(bytes: &[u8]) -> Checked
-    ensures { result ≡ verdict_of bytes.now }
+// A check that does not pass ends the checks with its refusal.
+fn refuse_unless(passes: bool, refusal: Refusal) -> Result<(), Refusal>
+    ensures { result ≡ cond passes (Ok tt) (Err refusal) }
 {
-    let job = places(bytes);
-    // from the chunk count on
-    let counted = tail(bytes, job.chunks);
-    let n = u8_at(counted, 0) as usize;
-    let chunks = tail(counted, CHUNK_COUNT_BYTES);
-    let checks = CHECKS;
-    for i in 0..checks.len() {
-        let next = checks[i];
-        let test = next.0;
-        if !passes(test, bytes, job, chunks, n) {
-            return Checked::Refused(next.1);
-        }
-    }
-    Checked::Accepted(job)
+    if passes { Ok(()) } else { Err(refusal) }
+}
+
+#[tactic(auto, unfolding(crate::specs::Verdict::verdict_of, spec::specs::Outcome::and_then, spec::specs::Outcome::first_failing, spec::specs::Check::checks))]
+pub fn check(bytes: &[u8]) -> Result<Job, Refusal>
+    ensures { outcome_of result ≡ verdict_of bytes.now }
+{
+    let parts = JobParts::of(bytes);
+    refuse_unless(length_ok(bytes), Refusal::BadLength)?;
+    refuse_unless(version_ok(bytes), Refusal::BadVersion)?;
+    refuse_unless(parts.is_shaped(), Refusal::BadCount)?;
+    refuse_unless(parts.values_ok(), Refusal::BadField)?;
+    refuse_unless(parts.texts_ok(), Refusal::BadText)?;
+    refuse_unless(parts.orders_ok(), Refusal::BadSpan)?;
+    Ok(parts.job)
 }
 
 // Document 01's number for a record: 0 where its job is accepted.
+#[tactic(auto, unfolding(crate::specs::Verdict::verdict_number))]
 pub fn number(bytes: &[u8]) -> u8
     ensures { result ≡ verdict_number (verdict_of bytes.now) }
 {
     match check(bytes) {
-        Checked::Accepted(_) => 0,
-        Checked::Refused(n) => n,
+        Ok(_) => 0,
+        Err(refusal) => u8::from(refusal),
     }
 }

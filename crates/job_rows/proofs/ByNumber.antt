@@ -1,12 +1,13 @@
 -- Rows by their numbers, and the places of the spans. Assumes nothing.
 use Prim.Native.Nat.{ℕ, zero, suc, ◌+◌, ◌-◌, ◌*◌, ◌≤◌, ◌<◌, min}
 use mathlib.Core.Path.{◌≡◌, refl, sym, ap, ◌∙◌}
-use mathlib.Core.List.{List, [], ◌∷◌, ◌++◌, map, append-nil}
-use native.Mathlib.Nat.{le_of_suc-le-suc, not-suc-le-zero, min-le_right}
+use mathlib.Core.List.{List, ◌∷◌, ◌++◌, map, append-nil}
+use native.Mathlib.Nat.{min-le_right}
 use native.Mathlib.Numerals.{add-one}
 use native.Mathlib.Omega.{arith}
-use lib.ListN.{length, get_or, set, take, drop, length-set, get_or-eq_default}
+use lib.ListN.{length, get_or, set, take, drop, length-set, length-map, get_or-eq_default}
 use lib.Seq.{drop-drop, take-suc-set, take_all, append_snoc}
+use Rattle.std.proofs.lemmas.List.{get_or-map}
 use Rattle.spec.specs.Bytes.{rows, sizes}
 use Rattle.spec.specs.Job.{blank_font, font_at}
 use Rattle.spec.specs.Decode.{font_bytes, font_of, span_size, parts_of}
@@ -45,14 +46,10 @@ module _ (s : List ℕ) (fonts b : ℕ) where
 
 module _ {A B : Type 0} (f : A → B) where
   pub map-in : (l : List A) (i : ℕ) (a : A) (b : B) → i < length l → get_or (map f l) i b ≡ f (get_or l i a)
-  map-in [] i a b h = absurd (not-suc-le-zero h)
-  map-in (x ∷ xs) zero a b h = refl
-  map-in (x ∷ xs) (suc i) a b h = map-in xs i a b (le_of_suc-le-suc h)
+  map-in l i a b h = get_or-map f l i a b h
 
   pub map-past : (l : List A) (i : ℕ) (b : B) → length l ≤ i → get_or (map f l) i b ≡ b
-  map-past [] i b h = refl
-  map-past (x ∷ xs) zero b h = absurd (not-suc-le-zero h)
-  map-past (x ∷ xs) (suc i) b h = map-past xs i b (le_of_suc-le-suc h)
+  map-past l i b h = get_or-eq_default (map f l) b (simp length-map h)
 
 -- ---- the places of the spans
 module _ (s : List ℕ) where
@@ -77,9 +74,6 @@ module _ (s : List ℕ) where
   -- i of them are put, and the next stands at p
   abbrev pub placed : List ℕ → ℕ → ℕ → List ℕ
   placed l i p = take i l ++ span_places s p (length l - i)
-
-  pub placed-start : (l : List ℕ) (p : ℕ) → placed l 0 p ≡ span_places s p (length l)
-  placed-start l p = let e : length l - 0 ≡ length l = omega arith in rw e
 
   pub placed-turn : (l : List ℕ) (i p : ℕ) {q k : ℕ} {row : List ℕ} → i < length l → row ≡ drop p s → k ≡ span_size row → q ≡ min (p + k) (length s)
       → placed (set l i p) (i + 1) q ≡ placed l i p

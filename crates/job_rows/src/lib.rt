@@ -2,5 +2,6 @@
 #![tactic(auto)]
 
 pub mod numbered;
+pub mod records;
 pub mod rows;
 pub mod sizes;

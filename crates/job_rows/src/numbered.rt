@@ -76,20 +76,20 @@ fn blank_span() -> Span
 pub fn span_in(s: &[u8], places: &[usize], k: usize) -> Span
     ensures { result ≡ span_at (spans_in s.now places.now) k }
 {
-    if k < places.len() {
-        return span_at(s, places[k]);
+    match places.get(k) {
+        Some(&at) => span_at(s, at),
+        None => blank_span(),
     }
-    blank_span()
 }
 
 // The font size of the span of place `k` in the chunk: only that float of the row is read.
 pub fn size_in(s: &[u8], places: &[usize], k: usize) -> f32
     ensures { result ≡ (span_at (spans_in s.now places.now) k).size }
 {
-    if places.len() <= k {
-        return 0.0;
+    match places.get(k) {
+        Some(&at) => span_float(tail(s, at), SPAN_SIZE_AT),
+        None => 0.0,
     }
-    span_float(tail(s, places[k]), SPAN_SIZE_AT)
 }
 
 // The float of place `i` in a list, given the bytes from its count on.
@@ -108,10 +108,8 @@ pub fn span_places(s: &[u8], at: usize, places: &mut [usize])
     ensures { places.new ≡ span_places s.now at (length places.old) }
 {
     let mut p = at;
-    let mut i: usize = 0;
-    while i < places.len() {
-        places[i] = p;
+    for place in places.iter_mut() {
+        *place = p;
         p = offset_after(s, p, span_size(tail(s, p)));
-        i += 1;
     }
 }

@@ -18,6 +18,7 @@ use wire::read::{
 use wire::slice::tail;
 
 // ---- rows of a fixed size, which are nearly always whole: then no byte is asked whether it is there
+// `font_at`, `glyph_at` and `span_at` share their shape; a trait for them, with a law on missing bytes, is longer than they are.
 
 // As many bytes as the longest of them has, a span's, with 0 for each that is missing.
 fn padded_row(row: &[u8]) -> [u8; SPAN_HEAD_BYTES]
@@ -28,6 +29,7 @@ fn padded_row(row: &[u8]) -> [u8; SPAN_HEAD_BYTES]
     padded
 }
 
+#[tactic(auto, unfolding(spec::specs::Decode::font_of))]
 pub fn font_of(row: &[u8]) -> Font
     requires { font_bytes ≤ length row.now }
     ensures { result ≡ font_of row.now }
@@ -45,6 +47,16 @@ pub fn font_of(row: &[u8]) -> Font
     }
 }
 
+// Of a row that is cut short.
+#[cold]
+fn font_padded(row: &[u8]) -> Font
+    ensures { result ≡ font_of row.now }
+{
+    let padded = padded_row(row);
+    font_of(&padded)
+}
+
+#[inline]
 pub fn font_at(s: &[u8], at: usize) -> Font
     ensures { result ≡ font_of (drop at s.now) }
 {
@@ -52,10 +64,10 @@ pub fn font_at(s: &[u8], at: usize) -> Font
     if FONT_BYTES <= row.len() {
         return font_of(row);
     }
-    let padded = padded_row(row);
-    font_of(&padded)
+    font_padded(row)
 }
 
+#[tactic(auto, unfolding(spec::specs::Decode::glyph_of))]
 pub fn glyph_of(row: &[u8]) -> Glyph
     requires { glyph_bytes ≤ length row.now }
     ensures { result ≡ glyph_of row.now }
@@ -73,6 +85,16 @@ pub fn glyph_of(row: &[u8]) -> Glyph
     }
 }
 
+// Of a row that is cut short.
+#[cold]
+fn glyph_padded(row: &[u8]) -> Glyph
+    ensures { result ≡ glyph_of row.now }
+{
+    let padded = padded_row(row);
+    glyph_of(&padded)
+}
+
+#[inline]
 pub fn glyph_at(s: &[u8], at: usize) -> Glyph
     ensures { result ≡ glyph_of (drop at s.now) }
 {
@@ -80,11 +102,11 @@ pub fn glyph_at(s: &[u8], at: usize) -> Glyph
     if GLYPH_BYTES <= row.len() {
         return glyph_of(row);
     }
-    let padded = padded_row(row);
-    glyph_of(&padded)
+    glyph_padded(row)
 }
 
 // The byte index alone, of a glyph.
+#[tactic(auto, unfolding(spec::specs::Decode::glyph_of))]
 pub fn glyph_index_at(s: &[u8], at: usize) -> u16
     ensures { result ≡ (glyph_of (drop at s.now)).index }
 {
@@ -95,6 +117,7 @@ pub fn glyph_index_at(s: &[u8], at: usize) -> u16
     u16_within(row, GLYPH_INDEX_AT)
 }
 
+#[tactic(auto, unfolding(spec::specs::Decode::span_of))]
 fn span_of(row: &[u8]) -> Span
     requires { 26 ≤ length row.now }
     ensures { result ≡ span_of row.now }
@@ -115,7 +138,17 @@ fn span_of(row: &[u8]) -> Span
     }
 }
 
+// Of a row that is cut short.
+#[cold]
+fn span_padded(row: &[u8]) -> Span
+    ensures { result ≡ span_of row.now }
+{
+    let padded = padded_row(row);
+    span_of(&padded)
+}
+
 // A span without its shifts and glyphs.
+#[inline]
 pub fn span_at(s: &[u8], at: usize) -> Span
     ensures { result ≡ span_of (drop at s.now) }
 {
@@ -123,8 +156,7 @@ pub fn span_at(s: &[u8], at: usize) -> Span
     if SPAN_HEAD_BYTES <= row.len() {
         return span_of(row);
     }
-    let padded = padded_row(row);
-    span_of(&padded)
+    span_padded(row)
 }
 
 // The float at `at` of a span's head, which is nearly always whole: then one test tells that the float is there.
@@ -152,6 +184,7 @@ pub struct ChunkHead {
     pub spans: usize,
 }
 
+#[tactic(auto, unfolding(crate::specs::Head::head_of))]
 pub fn head_at(s: &[u8], at: usize) -> ChunkHead
     ensures { result ≡ head_of (drop at s.now) }
 {
@@ -168,6 +201,7 @@ pub fn head_at(s: &[u8], at: usize) -> ChunkHead
 }
 
 // The anchor alone, of a chunk.
+#[tactic(auto, unfolding(crate::specs::Head::head_of))]
 pub fn anchor_at(s: &[u8], at: usize) -> u8
     ensures { result ≡ (head_of (drop at s.now)).anchor }
 {
@@ -175,12 +209,14 @@ pub fn anchor_at(s: &[u8], at: usize) -> u8
 }
 
 // A shift row's kind, and its float.
+#[tactic(auto, unfolding(spec::specs::Decode::shift_of))]
 pub fn shift_kind_at(s: &[u8], at: usize) -> u8
     ensures { result ≡ (shift_of (drop at s.now)).kind }
 {
     u8_at(s, at)
 }
 
+#[tactic(auto, unfolding(spec::specs::Decode::shift_of))]
 pub fn shift_number_at(s: &[u8], at: usize) -> f32
     ensures { result ≡ (shift_of (drop at s.now)).number }
 {

@@ -1,10 +1,10 @@
 // How many rows a span, a chunk and a job have, and how many bytes they take. Each function is given the bytes from its record on.
-ghost use Rattle.std.specs.Prelude.{◌≡◌, ◌<◌, ◌≤◌, ◌*◌};
-ghost use Rattle.spec.specs.Bytes.{sizes};
+ghost use Rattle.std.specs.Prelude.{◌≡◌, ◌<◌};
 ghost use Rattle.spec.specs.Decode.{shift_count, glyph_count_at, glyph_count, span_size, text_size, span_count_at, span_count, span_bytes, chunk_size, chunk_of, list_size, font_count};
 
+use crate::records::{SpanRecord, records_size};
 use wire::read::{u8_at, u16_at};
-use wire::slice::{offset_after, tail, window};
+use wire::slice::{tail, window};
 
 // ---- sizes and places of a record's parts, in the definitions' words where they have a name for them
 
@@ -74,7 +74,9 @@ pub const SHIFT_COUNT_AT: usize = SPAN_HEAD_BYTES;
 pub const SHIFTS_AT: usize = SHIFT_COUNT_AT + 1;
 
 // ---- a span
+// Here and elsewhere `as` widens a number where proofs go on with it: its value is then the number itself, and not the result of a call of `from`.
 
+#[tactic(auto, unfolding(spec::specs::Decode::shift_count))]
 pub fn shift_count(span: &[u8]) -> usize
     ensures { (result ≡ shift_count span.now) × (result < 256) }
 {
@@ -82,44 +84,30 @@ pub fn shift_count(span: &[u8]) -> usize
 }
 
 // Where the glyph count stands.
+#[tactic(auto, unfolding(spec::specs::Decode::glyph_count_at))]
 pub fn glyphs_at(span: &[u8]) -> usize
     ensures { (result ≡ glyph_count_at span.now) × (result < 1_303) }
 {
     SHIFTS_AT + shift_count(span) * SHIFT_BYTES
 }
 
+#[tactic(auto, unfolding(spec::specs::Decode::glyph_count))]
 pub fn glyph_count(span: &[u8]) -> usize
     ensures { (result ≡ glyph_count span.now) × (result < 65_536) }
 {
     u16_at(span, glyphs_at(span)) as usize
 }
 
+#[tactic(auto, unfolding(spec::specs::Decode::span_size))]
 pub fn span_size(span: &[u8]) -> usize
     ensures { (result ≡ span_size span.now) × (result < 2_000_000) }
 {
     glyphs_at(span) + GLYPH_COUNT_BYTES + glyph_count(span) * GLYPH_BYTES
 }
 
-// `n` spans one after the other.
-pub fn spans_size(spans: &[u8], n: usize) -> usize
-    requires { n < 256 }
-    ensures { (result ≡ sizes span_size n spans.now) × (result ≤ n * 2_000_000) }
-{
-    let mut size: usize = 0;
-    let mut p: usize = 0;
-    let mut left = n;
-    while 0 < left {
-        let span = tail(spans, p);
-        let k = span_size(span);
-        size += k;
-        p = offset_after(spans, p, k);
-        left -= 1;
-    }
-    size
-}
-
 // ---- a chunk
 
+#[tactic(auto, unfolding(spec::specs::Decode::text_size))]
 pub fn text_size(chunk: &[u8]) -> usize
     ensures { (result ≡ text_size chunk.now) × (result < 65_536) }
 {
@@ -127,6 +115,7 @@ pub fn text_size(chunk: &[u8]) -> usize
 }
 
 // The text, as far as it is there.
+#[tactic(auto, unfolding(spec::specs::Decode::chunk_of))]
 pub fn text_of(chunk: &[u8]) -> &[u8]
     ensures { result.now ≡ (chunk_of chunk.now).text }
 {
@@ -134,12 +123,14 @@ pub fn text_of(chunk: &[u8]) -> &[u8]
 }
 
 // Where the span count stands.
+#[tactic(auto, unfolding(spec::specs::Decode::span_count_at))]
 pub fn spans_at(chunk: &[u8]) -> usize
     ensures { (result ≡ span_count_at chunk.now) × (result < 65_549) }
 {
     TEXT_BYTES_AT + text_size(chunk)
 }
 
+#[tactic(auto, unfolding(spec::specs::Decode::span_count))]
 pub fn span_count(chunk: &[u8]) -> usize
     ensures { (result ≡ span_count chunk.now) × (result < 256) }
 {
@@ -147,44 +138,31 @@ pub fn span_count(chunk: &[u8]) -> usize
 }
 
 // The bytes from the first span on.
+#[tactic(auto, unfolding(spec::specs::Decode::span_bytes))]
 pub fn span_bytes(chunk: &[u8]) -> &[u8]
     ensures { result.now ≡ span_bytes chunk.now }
 {
     tail(chunk, spans_at(chunk) + SPAN_COUNT_BYTES)
 }
 
+#[tactic(auto, unfolding(spec::specs::Decode::chunk_size))]
 pub fn chunk_size(chunk: &[u8]) -> usize
     ensures { (result ≡ chunk_size chunk.now) × (result < 600_000_000) }
 {
-    spans_at(chunk) + SPAN_COUNT_BYTES + spans_size(span_bytes(chunk), span_count(chunk))
-}
-
-// `n` chunks one after the other.
-pub fn chunks_size(chunks: &[u8], n: usize) -> usize
-    requires { n < 256 }
-    ensures { (result ≡ sizes chunk_size n chunks.now) × (result ≤ n * 600_000_000) }
-{
-    let mut size: usize = 0;
-    let mut p: usize = 0;
-    let mut left = n;
-    while 0 < left {
-        let chunk = tail(chunks, p);
-        let k = chunk_size(chunk);
-        size += k;
-        p = offset_after(chunks, p, k);
-        left -= 1;
-    }
-    size
+    let spans = records_size::<SpanRecord>(span_bytes(chunk), span_count(chunk));
+    spans_at(chunk) + SPAN_COUNT_BYTES + spans
 }
 
 // ---- a job, given the bytes after the version
 
+#[tactic(auto, unfolding(spec::specs::Decode::list_size))]
 pub fn list_size(list: &[u8]) -> usize
     ensures { (result ≡ list_size list.now) × (result < 262_143) }
 {
     LIST_COUNT_BYTES + u16_at(list, 0) as usize * FLOAT_SIZE
 }
 
+#[tactic(auto, unfolding(spec::specs::Decode::font_count))]
 pub fn font_count(job: &[u8]) -> usize
     ensures { (result ≡ font_count job.now) × (result < 256) }
 {

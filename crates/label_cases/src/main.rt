@@ -1,22 +1,15 @@
 // Lays out the job in each file that an argument names, and prints the file's name and then the layout in document 01's text form.
 #![tactic(auto)]
 
-use std::env;
+use text_form::{JOB_ROOM, show_job};
 
-const STDOUT: i32 = 1;
-
-fn show_file(rt: &HostRuntime, path: &str) {
-    if let Some(mut file) = named_files::open_argument(rt, path) {
-        io::write_all(STDOUT, b"\n");
-        let mut job = [0u8; text_form::JOB_ROOM];
-        let n = named_files::read_full(&mut file, &mut job);
-        text_form::show_job(&job[..n]);
-    }
+// A write that fails is passed over.
+fn show_file(rt: &impl Print, job: &[u8]) {
+    let _ = println!(rt);
+    show_job(rt, job);
 }
 
 fn main(rt: HostRuntime) -> std::io::Result<()> {
-    for path in env::args(&rt)?.skip(1) {
-        show_file(&rt, path.as_str());
-    }
-    Ok(())
+    let mut job = [0; JOB_ROOM];
+    named_files::show_each(&rt, &mut job, |job| show_file(&rt, job))
 }

@@ -17,7 +17,6 @@ use Rattle.spec.specs.Decode.{shaped, job_of, dx_at, dy_at, rotate_at, chunk_cou
 use Rattle.spec.specs.Check.{checked, after_version, length_ok, values_ok, chunk_ok}
 use Rattle.job_rows.specs.Rows.{fonts_in, job_at}
 use Rattle.job_checks.specs.Verdict.{places_of, verdict_of}
-use Rattle.job_checks.specs.declared.check.Checked.TheVariants as C
 use Rattle.job_checks.proofs.Places.{behind-version}
 use Rattle.job_checks.proofs.Verdicts.{given-where-accepted, accepted-where-given}
 use Rattle.layout.specs.Checked.{chunk_count_in, CheckedJob}
@@ -43,7 +42,7 @@ module _ (s : List ℕ) where
   job-at =
       rw (← (behind-version s 2), ← (behind-version s (dx_at rest_of)), ← (behind-version s (dy_at rest_of)), ← (behind-version s (rotate_at rest_of)), count_at, chunks-at) refl
 
-module _ (s : List ℕ) (job : Job) (e : verdict_of s ≡ C.Accepted job) where
+module _ (s : List ℕ) (job : Job) (e : verdict_of s ≡ given job) where
   places-are : job ≡ places_of s
   places-are = let same = accepted-where-given s (job_of (after_version s)) (given-where-accepted s job e) in cc
 

@@ -28,8 +28,10 @@ use Rattle.wire.proofs.Places.{after-drops}
 use Rattle.wire.proofs.Splice.{splice-none}
 use Rattle.chunk.specs.declared.progress.Progress as chunk
 use Rattle.chunk.specs.declared.progress.NextChunk.{NextChunk}
-use Rattle.chunk.specs.declared.progress.ChunkResult.{ChunkResult}
-use Rattle.chunk.specs.declared.progress.ChunkResult.TheVariants.{Done, Refused}
+use Rattle.std.specs.Prelude.{Ok, Err}
+use Rattle.std.specs.declared.result.Result.{Result}
+use Rattle.spec.specs.declared.Refusal.{Refusal}
+use Rattle.spec.specs.Refusal.{refusal_number, outcome_of}
 use Rattle.chunk.specs.Checked.{CheckedChunk}
 use Rattle.chunk.specs.Steps.{progress_of, written_bytes, progress_after, result_of, buffer_after_chunks, chunk_outcome, ChunkWritten}
 use Rattle.layout.specs.Checked.{chunk_count_in, CheckedJob}
@@ -159,22 +161,22 @@ module _ (s : List ℕ) (job : Job) (before : chunk.Progress) (at left : ℕ) (h
           bytes = let b = l.bytes in let few = k.size in omega arith;
         }
 
-  module _ {old new : List ℕ} {r : ChunkResult} (b : ChunkWritten before r old new (chunk_outcome s next)) where
+  module _ {old new : List ℕ} {r : Result chunk.Progress Refusal} (b : ChunkWritten before r old new (chunk_outcome s next)) where
     -- the chunk is refused, and with it the job
-    module _ (k : ℕ) (r-is : r ≡ Refused k) where
-      refused-laid : rest_laid s job before at left ≡ refused k
-      refused-laid = then-laid ∙ rw (refused-of before.length (chunk_outcome s next) k (sym r-is ∙ b.laid)) (refused-stays (job_at s job) k others)
+    module _ (e : Refusal) (r-is : r ≡ Err e) where
+      refused-laid : rest_laid s job before at left ≡ refused (refusal_number e)
+      refused-laid = then-laid ∙ rw (refused-of before.length (chunk_outcome s next) (ap outcome_of (sym r-is) ∙ b.laid)) (refused-stays (job_at s job) (refusal_number e) others)
 
       -- which then does not fit
       pub refused-laying : {first : List ℕ} → Laying s job first old before at left
-          → (Refused k ≡ result_of answer_head_size (job_outcome s job)) × (fits_in (length first) (job_outcome s job) ≡ true → ⊥)
+          → (outcome_of r ≡ result_of answer_head_size (job_outcome s job)) × (fits_in (length first) (job_outcome s job) ≡ true → ⊥)
       unfolding result_of
-      refused-laying y = (sym (ap (result_of before.length) refused-laid) ∙ y.laid, λ e. subst (FitsFrom (length old) before.length) refused-laid (y.put e).fits)
+      refused-laying y = (ap outcome_of r-is ∙ sym (ap (result_of before.length) refused-laid) ∙ y.laid, λ e. subst (FitsFrom (length old) before.length) refused-laid (y.put e).fits)
 
     -- the chunk is laid out and takes `size` bytes, and q is the place behind it
-    module _ (after : chunk.Progress) (r-is : r ≡ Done after) (size q : ℕ) (size_is : size ≡ chunk_size (drop at s)) (q-is : q ≡ min (at + size) (length s)) where
+    module _ (after : chunk.Progress) (r-is : r ≡ Ok after) (size q : ℕ) (size_is : size ≡ chunk_size (drop at s)) (q-is : q ≡ min (at + size) (length s)) where
       went : (st : Progress) × (chunk_outcome s next ≡ given st) × (after ≡ progress_after before.length st)
-      went = given-of before.length (chunk_outcome s next) after (sym r-is ∙ b.laid)
+      went = given-of before.length (chunk_outcome s next) (ap outcome_of (sym r-is) ∙ b.laid)
 
       abbrev st : Progress
       st = went.0
@@ -243,10 +245,10 @@ module _ (s : List ℕ) (job : Job) (before : chunk.Progress) (at left : ℕ) (h
   none_left : rest_laid s job before at left ≡ given (progress_of before)
   none_left = rw (rows-done chunk_size chunk_of left (drop at s) h) refl
 
-  laid_done : {first out : List ℕ} → Laying s job first out before at left → Done before ≡ result_of answer_head_size (job_outcome s job)
+  laid_done : {first out : List ℕ} → Laying s job first out before at left → given before ≡ result_of answer_head_size (job_outcome s job)
   unfolding result_of progress_after written_bytes flat_map
   laid_done y =
-      let whole : Done before ≡ result_of before.length (rest_laid s job before at left) = rw (none_left, add-zero) refl in
+      let whole : given before ≡ result_of before.length (rest_laid s job before at left) = rw (none_left, add-zero) refl in
       whole ∙ y.laid
 
   put-done : {out whole : List ℕ} → Putting s job out before at left whole → out ≡ whole
@@ -256,5 +258,5 @@ module _ (s : List ℕ) (job : Job) (before : chunk.Progress) (at left : ℕ) (h
       sym (splice-none out before.length) ∙ sym (put-fits out before.length [] fits) ∙ ap (buffer_after_chunks out before.length) (sym none_left) ∙ p.put
 
   pub laying-done : {first out : List ℕ} → Laying s job first out before at left
-      → (Done before ≡ result_of answer_head_size (job_outcome s job)) × (fits_in (length first) (job_outcome s job) ≡ true → out ≡ buffer_after_chunks first answer_head_size (job_outcome s job))
+      → (given before ≡ result_of answer_head_size (job_outcome s job)) × (fits_in (length first) (job_outcome s job) ≡ true → out ≡ buffer_after_chunks first answer_head_size (job_outcome s job))
   laying-done y = (laid_done y, λ e. put-done (y.put e))

@@ -11,7 +11,8 @@ use Rattle.spec.specs.Decode.{chunk_count_bytes}
 use Rattle.spec.specs.Answer.{answer_head_size}
 use Rattle.spec.specs.Layout.{beginning}
 use Rattle.job_rows.specs.Rows.{job_at}
-use Rattle.chunk.specs.declared.progress.ChunkResult.{ChunkResult}
+use Rattle.std.specs.declared.result.Result.{Result}
+use Rattle.spec.specs.declared.Refusal.{Refusal}
 use Rattle.chunk.specs.declared.progress.Progress.{Progress}
 use Rattle.chunk.specs.declared.progress.NextChunk.{NextChunk}
 use Rattle.chunk.specs.Checked.{CheckedChunk}
@@ -34,7 +35,7 @@ module _ {s : List ℕ} {job : Job} (k : CheckedJob s job) (one : chunk_count_in
   unfolding rows
   job_is = sym (then-laid s job before at 1 (lit< tt)) ∙ begun-laid k refl (sym one) e
 
-  pub single-laid : {r : ChunkResult} {old new : List ℕ} → ChunkWritten before r old new (chunk_outcome s only) → ChunksWritten (job_outcome s job) r old new
+  pub single-laid : {r : Result Progress Refusal} {old new : List ℕ} → ChunkWritten before r old new (chunk_outcome s only) → ChunksWritten (job_outcome s job) r old new
   single-laid b = record { laid = rw (← job_is, ← (head k refl (sym one) e)) b.laid; buffer = rw (← job_is, ← (head k refl (sym one) e)) b.buffer }
 
 -- a chunk is counted for each

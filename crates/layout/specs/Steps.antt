@@ -6,7 +6,10 @@ use Rattle.spec.specs.declared.Job.{Job}
 use Rattle.spec.specs.Answer.{answer_head_size}
 use Rattle.spec.specs.Layout.{Progress, beginning, rows_of, layout_chunk, fitting}
 use Rattle.job_rows.specs.Rows.{job_at}
-use Rattle.chunk.specs.declared.progress.ChunkResult.{ChunkResult}
+use Rattle.std.specs.declared.result.Result.{Result}
+use Rattle.spec.specs.declared.Refusal.{Refusal}
+use Rattle.spec.specs.Refusal.{outcome_of}
+use Rattle.chunk.specs.declared.progress.Progress as code
 use Rattle.chunk.specs.Steps.{written_bytes, result_of, buffer_after_chunks}
 
 -- the chunks of the job that stands at these places of the record, laid out in order
@@ -19,8 +22,8 @@ fits_in room (refused k) = false
 fits_in room (given st) = leb (answer_head_size + length (written_bytes st)) room
 
 -- the layout of the whole job, and the buffer: the rows stand there exactly if no chunk is refused and the answer has room
-pub record ChunksWritten (o : Outcome Progress) (r : ChunkResult) (old new : List ℕ) : Type 0 where
-  pub laid : r ≡ result_of answer_head_size o
+pub record ChunksWritten (o : Outcome Progress) (r : Result code.Progress Refusal) (old new : List ℕ) : Type 0 where
+  pub laid : outcome_of r ≡ result_of answer_head_size o
   pub buffer : new ≡ buffer_after_chunks old answer_head_size o
 
 -- the answer of the chunks laid out, or 10

@@ -3,18 +3,20 @@ ghost use Rattle.std.specs.Prelude.{◌≡◌, true, ◌<◌, length};
 ghost use Rattle.spec.specs.Answer.{answer_head_size};
 ghost use Rattle.spec.specs.Layout.{beginning};
 ghost use Rattle.spec.specs.Lists.{all};
+ghost use Rattle.spec.specs.Refusal.{outcome_of};
 ghost use Rattle.job_rows.specs.Rows.{job_at};
 ghost use Rattle.chunk.specs.Sure.{sure};
 ghost use Rattle.chunk.specs.Steps.{progress_after, result_of, buffer_after_chunks};
 ghost use Rattle.layout.specs.Steps.{job_outcome, fits_in};
-ghost use Rattle.layout.specs.Checked.{chunk_count_in, CheckedJob};
+ghost use Rattle.layout.specs.Checked.{chunk_count_in};
 
+use crate::checked::Checked;
 use answer_format::ANSWER_HEAD_BYTES;
 use chunk::chunk::layout_chunk;
-use chunk::progress::{ChunkResult, NextChunk, Progress};
+use chunk::progress::{NextChunk, Progress};
 use chunk::sure::is_sure;
 use job_rows::sizes::{CHUNK_COUNT_BYTES, chunk_size};
-use spec::{Job, Point};
+use spec::{Point, Refusal};
 use wire::read::u8_at;
 use wire::slice::{offset_after, tail};
 
@@ -31,48 +33,40 @@ pub fn beginning() -> Progress
 }
 
 // How many chunks the job has.
-pub fn count_of(s: &[u8], job: Job) -> usize
-    ensures { (result ≡ chunk_count_in s.now job) × (result < 256) }
+pub fn count_of(checked: Checked) -> usize
+    ensures { (result ≡ chunk_count_in checked.entry.bytes.now checked.entry.job) × (result < 256) }
 {
-    u8_at(s, job.chunks) as usize
+    usize::from(u8_at(checked.bytes, checked.job.chunks))
 }
 
-// Lays out the chunks one after the other. Returns the progress after the last, or the number that the job is refused with. A chunk's row is written
+// Lays out the chunks one after the other. Returns the progress after the last, or why the job is refused. A chunk's row is written
 // if it ends within `out`, so all rows stand there if the whole answer fits; otherwise the contents of `out` are unspecified.
-pub fn layout_chunks(s: &[u8], job: Job, out: &mut [u8]) -> ChunkResult
-    requires { CheckedJob s.now job }
-    ensures { (result ≡ result_of answer_head_size (job_outcome s.now job))
-        × (fits_in (length out.old) (job_outcome s.now job) ≡ true
-        → out.new ≡ buffer_after_chunks out.old answer_head_size (job_outcome s.now job)) }
+pub fn layout_chunks(checked: Checked, out: &mut [u8]) -> Result<Progress, Refusal>
+    ensures { (outcome_of result ≡ result_of answer_head_size (job_outcome checked.entry.bytes.now checked.entry.job))
+        × (fits_in (length out.old) (job_outcome checked.entry.bytes.now checked.entry.job) ≡ true
+        → out.new ≡ buffer_after_chunks out.old answer_head_size (job_outcome checked.entry.bytes.now checked.entry.job)) }
 {
+    let Checked { bytes: s, job } = checked;
     let mut before = beginning();
     let mut at = job.chunks + CHUNK_COUNT_BYTES;
-    let mut left = count_of(s, job);
-    while 0 < left {
-        match layout_chunk(s, NextChunk { job, at, before }, out) {
-            ChunkResult::Done(next) => before = next,
-            ChunkResult::Refused(number) => return ChunkResult::Refused(number),
-        }
-        let size = chunk_size(tail(s, at));
-        at = offset_after(s, at, size);
-        left -= 1;
+    for _ in 0..count_of(checked) {
+        before = layout_chunk(s, NextChunk { job, at, before }, out)?;
+        at = offset_after(s, at, chunk_size(tail(s, at)));
     }
-    ChunkResult::Done(before)
+    Ok(before)
 }
 
 // Whether every chunk is sure to be laid out.
-pub fn all_sure(s: &[u8], job: Job) -> bool
-    requires { CheckedJob s.now job }
-    ensures { result ≡ all sure (job_at s.now job).chunks }
+pub fn all_sure(checked: Checked) -> bool
+    ensures { result ≡ all sure (job_at checked.entry.bytes.now checked.entry.job).chunks }
 {
-    let mut at = job.chunks + CHUNK_COUNT_BYTES;
-    let mut left = count_of(s, job);
-    while 0 < left {
+    let s = checked.bytes;
+    let mut at = checked.job.chunks + CHUNK_COUNT_BYTES;
+    for _ in 0..count_of(checked) {
         if !is_sure(s, at) {
             return false;
         }
         at = offset_after(s, at, chunk_size(tail(s, at)));
-        left -= 1;
     }
     true
 }

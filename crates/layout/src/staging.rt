@@ -6,14 +6,14 @@ ghost use Rattle.std.specs.Prelude.{◌≡◌, ◌+◌, ◌*◌, ◌≤◌, leng
 ghost use Rattle.spec.specs.Job.{limits};
 ghost use Rattle.wire.specs.Splice.{splice};
 ghost use Rattle.layout.specs.Steps.{job_outcome, ChunksWritten};
-ghost use Rattle.layout.specs.Checked.{CheckedJob};
 
+use crate::checked::Checked;
 use crate::chunks::{all_sure, beginning, count_of, layout_chunks};
 use answer_format::ANSWER_HEAD_BYTES;
 use chunk::chunk::layout_chunk;
-use chunk::progress::{ChunkResult, NextChunk};
+use chunk::progress::{NextChunk, Progress};
 use job_rows::sizes::CHUNK_COUNT_BYTES;
-use spec::Job;
+use spec::Refusal;
 
 // The size of the staging buffer.
 const STAGING_BYTES: usize = 8_192;
@@ -23,37 +23,24 @@ fn copy_into(out: &mut [u8], at: usize, bytes: &[u8])
     requires { at + length bytes.now ≤ length out.old }
     ensures { out.new ≡ splice out.old at bytes.now }
 {
-    let mut i: usize = 0;
-    while i < bytes.len() {
-        out[at + i] = bytes[i];
-        i += 1;
-    }
+    out[at..at + bytes.len()].copy_from_slice(bytes);
 }
 
 // Lays out several chunks in the staging buffer; else as `layout_all`.
-fn layout_staged(s: &[u8], job: Job, answer: &mut [u8]) -> ChunkResult
-    requires { CheckedJob s.now job }
-    ensures { ChunksWritten (job_outcome s.now job) result answer.old answer.new }
+fn layout_staged(checked: Checked, answer: &mut [u8]) -> Result<Progress, Refusal>
+    ensures { ChunksWritten (job_outcome checked.entry.bytes.now checked.entry.job) result answer.old answer.new }
 {
     let mut staged = [0; STAGING_BYTES];
-    match layout_chunks(s, job, &mut staged) {
-        ChunkResult::Refused(number) => ChunkResult::Refused(number),
-        ChunkResult::Done(end) => {
-            let length = end.length;
-            if answer.len() < length {
-                return ChunkResult::Done(end);
-            }
-            if STAGING_BYTES < length {
-                return layout_chunks(s, job, answer);
-            }
-            copy_into(
-                answer,
-                ANSWER_HEAD_BYTES,
-                &staged[ANSWER_HEAD_BYTES..length],
-            );
-            ChunkResult::Done(end)
-        }
+    let end = layout_chunks(checked, &mut staged)?;
+    if answer.len() < end.length {
+        return Ok(end);
     }
+    if STAGING_BYTES < end.length {
+        return layout_chunks(checked, answer);
+    }
+    let rows = &staged[ANSWER_HEAD_BYTES..end.length];
+    copy_into(answer, ANSWER_HEAD_BYTES, rows);
+    Ok(end)
 }
 
 // Whether a buffer of so many bytes has room for any answer to a job of so many: an answer has at most 64 / 25 of its job's bytes.
@@ -65,19 +52,17 @@ fn has_room(job: usize, answer: usize) -> bool
 }
 
 // Lays out all chunks. Their rows stand in `answer` if none is refused and the whole answer fits; else it is as it was.
-pub fn layout_all(s: &[u8], job: Job, answer: &mut [u8]) -> ChunkResult
-    requires { CheckedJob s.now job }
-    ensures { ChunksWritten (job_outcome s.now job) result answer.old answer.new }
+pub fn layout_all(checked: Checked, answer: &mut [u8]) -> Result<Progress, Refusal>
+    ensures { ChunksWritten (job_outcome checked.entry.bytes.now checked.entry.job) result answer.old answer.new }
 {
-    if count_of(s, job) == 1 {
+    if count_of(checked) == 1 {
+        let Checked { bytes, job } = checked;
         let at = job.chunks + CHUNK_COUNT_BYTES;
         let before = beginning();
-        return layout_chunk(s, NextChunk { job, at, before }, answer);
+        return layout_chunk(bytes, NextChunk { job, at, before }, answer);
     }
-    if has_room(s.len(), answer.len()) {
-        if all_sure(s, job) {
-            return layout_chunks(s, job, answer);
-        }
+    if has_room(checked.bytes.len(), answer.len()) && all_sure(checked) {
+        return layout_chunks(checked, answer);
     }
-    layout_staged(s, job, answer)
+    layout_staged(checked, answer)
 }

@@ -7,7 +7,7 @@ ghost use Rattle.std.specs.Prelude.{◌≡◌, ◌<◌};
 ghost use Rattle.layout.specs.Returned.{returned_number, returned_length};
 ghost use Rattle.layout.specs.Called.{LayoutPromise};
 
-use layout::Answered;
+use spec::Refusal;
 
 #[repr(C)]
 #[derive(Clone, Copy)]
@@ -16,17 +16,18 @@ pub struct LayoutResult {
     pub length: u32,
 }
 
-fn result_of(answered: Answered) -> LayoutResult
+// Not a `From`, which cannot ask that the length fits.
+fn result_of(answered: Result<usize, Refusal>) -> LayoutResult
     requires { returned_length answered < 4_294_967_296 }
     ensures { (result.number ≡ returned_number answered) × (result.length ≡ returned_length answered) }
 {
     match answered {
-        Answered::Written(n) => LayoutResult {
+        Ok(length) => LayoutResult {
             number: 0,
-            length: n as u32,
+            length: length as u32,
         },
-        Answered::Refused(number) => LayoutResult {
-            number: number as u32,
+        Err(refusal) => LayoutResult {
+            number: u32::from(u8::from(refusal)),
             length: 0,
         },
     }

@@ -77,7 +77,7 @@ module _ (s : Span) where
           inr (rw e, rw e (⊎_elim (λ n. omega (arith, h, n)) (λ y. omega (arith, h, y)) t), rw e (omega arith))
       go false e t = rw e (⊎_elim (λ n. inl (n.0, omega (arith, n.1), n.2)) (λ y. inr (y.0, omega (arith, y.1), y.2)) t)
 
-  pub looked-reach : (is : List ℕ) → bytes_looked s is ≡ reach is
+  looked-reach : (is : List ℕ) → bytes_looked s is ≡ reach is
   unfolding bytes_looked
   looked-reach is = ⊎_elim (λ n. rw n.0 (sym n.1)) (λ y. rw y.0 (sym y.1)) (told is)
 

@@ -1,13 +1,8 @@
 -- Two numbers that are the same or not. Assumes nothing.
 use Prim.Native.Nat.{ℕ}
-use mathlib.Core.Path.{◌≡◌, refl}
-use mathlib.Core.Bool.{Bool, true, false}
-use lib.Dec.{eqb}
-use borrow.Author.Tests.{eqb-true, eqb-false}
+use mathlib.Core.Path.{◌≡◌}
+use mathlib.Core.Logic.{⊎_elim}
+use Rattle.std.proofs.lemmas.Bool.{cases_eq}
 
 pub same_or_not : {C : Type 0} (m n : ℕ) → (m ≡ n → C) → ((m ≡ n → ⊥) → C) → C
-same_or_not {C} m n f g = go (eqb m n) refl
-  where
-    go : (b : Bool) → eqb m n ≡ b → C
-    go true e = f (eqb-true m n e)
-    go false e = g (eqb-false m n e)
+same_or_not m n f g = ⊎_elim f g (cases_eq m n)

@@ -1,33 +1,24 @@
 -- Keys passed over up to a byte index: one by one, and by halves where they ascend. Assumes nothing.
 use Prim.Native.Nat.{ℕ, zero, suc, ◌+◌, ◌/◌, ◌%◌, ◌≤◌, ◌<◌}
-use mathlib.Core.Path.{◌≡◌, refl}
+use mathlib.Core.Path.{◌≡◌, refl, sym, ap}
+use mathlib.Core.Bool.{true, false, cond}
 use mathlib.Core.List.{List, [], ◌∷◌}
-use native.Mathlib.Numerals.{add-one}
 use native.Mathlib.Omega.{arith}
-use lib.ListN.{length, get_or, take, drop, drop_of_length-le}
-use lib.Seq.{drop-cons}
-use borrow.Author.Tests.{le-leb, lt-leb, eq-eqb, ne_eqb}
+use lib.ListN.{length, get_or, take, drop}
+use lib.Dec.{leb, ltb}
+use borrow.Author.Tests.{le-leb, lt-leb, le-ltb, lt-ltb, eq-eqb, ne_eqb, ltb-true, ltb-false}
 use Rattle.spec.specs.Lists.{find_idx, All}
 use Rattle.spec.specs.declared.Span.{Span}
 use Rattle.spec_laws.proofs.All.{all-weaken, all_take, all_drop}
 use Rattle.sort.proofs.Cases.{in_order}
+use Rattle.std.specs.Prelude.{Some, None}
+use Rattle.std.specs.Option.{unwrap_or}
+use Rattle.std.specs.List.{AllWithin, position_or_len}
+use Rattle.std.proofs.lemmas.List.Recursion.{is_position_or_len}
+use Rattle.std.specs.List.Sorted.{IsNonDecreasingBy, IsPartitionedBy, IsPartitionPoint}
+use Rattle.std.proofs.lemmas.List.Sorted.{IsPartitionedBy-ltb}
 use Rattle.sort.proofs.Ascending.{Least, Ascends, take-ascends, drop-ascends}
 use Rattle.length_adjust.specs.Marks.{below, place_for, own_keys}
-
--- ---- the next key
-
-module _ (keys : List ℕ) (b j : ℕ) where
-  pub next-on : j < length keys → get_or keys j 0 / 65536 < b → j + 1 + below b (drop (j + 1) keys) ≡ j + below b (drop j keys)
-  unfolding find_idx
-  next-on h e = rw (add-one, drop-cons keys j 0 h, lt-leb b (get_or keys j 0 / 65536) e) (omega arith)
-
-  pub next_here : j < length keys → b ≤ get_or keys j 0 / 65536 → j + below b (drop j keys) ≡ j
-  unfolding find_idx
-  next_here h e = rw (drop-cons keys j 0 h, le-leb b (get_or keys j 0 / 65536) e) (omega arith)
-
-  pub next-none : length keys ≤ j → j + below b (drop j keys) ≡ j
-  unfolding find_idx
-  next-none h = rw (drop_of_length-le keys h) (omega arith)
 
 -- ---- the place of a key
 
@@ -42,10 +33,17 @@ module _ (n b key : ℕ) where
 
 -- ---- by halves
 
-least_at : {k : ℕ} {ks : List ℕ} → Least k ks → (j : ℕ) → j < length ks → k ≤ get_or ks j 0
-least_at All.none j h = absurd (omega arith)
-least_at (All.more g l) zero h = g
-least_at (All.more g l) (suc j) h = least_at l j (omega arith)
+least_at : {k : ℕ} {ks : List ℕ} → Least k ks → (j d : ℕ) → j < length ks → k ≤ get_or ks j d
+least_at All.none j d h = absurd (omega arith)
+least_at (All.more g l) zero d h = g
+least_at (All.more g l) (suc j) d h = least_at l j d (omega arith)
+
+indexes-rise : {keys : List ℕ} → Ascends keys → IsNonDecreasingBy (λ (key : ℕ). key / 65536) keys
+indexes-rise Ascends.end i j d h g = absurd (omega arith)
+indexes-rise (Ascends.step l a) zero zero d h g = omega arith
+indexes-rise (Ascends.step l a) zero (suc j) d h g = omega (arith, least_at l j d (omega arith))
+indexes-rise (Ascends.step l a) (suc i) zero d h g = absurd (omega arith)
+indexes-rise (Ascends.step l a) (suc i) (suc j) d h g = indexes-rise a i j d (omega arith) (omega arith)
 
 module _ (b : ℕ) where
   pub below-stop : (key : ℕ) (keys : List ℕ) → b ≤ key / 65536 → below b (key ∷ keys) ≡ 0
@@ -56,16 +54,16 @@ module _ (b : ℕ) where
   unfolding find_idx
   below_on key keys h = rw (lt-leb b (key / 65536) h)
 
-  pub below-past : {keys : List ℕ} → Ascends keys → (j : ℕ) → j < length keys → get_or keys j 0 / 65536 < b → j < below b keys
+  below-past : {keys : List ℕ} → Ascends keys → (j : ℕ) → j < length keys → get_or keys j 0 / 65536 < b → j < below b keys
   unfolding find_idx
   below-past Ascends.end j h e = absurd (omega arith)
   below-past (Ascends.step {k = key} l a) zero h e = rw (lt-leb b (key / 65536) e) (omega arith)
   below-past (Ascends.step {k = key} l a) (suc j) h e =
       let more = below-past a j (omega arith) e in
-      let least = least_at l j (omega arith) in
+      let least = least_at l j 0 (omega arith) in
       rw (lt-leb b (key / 65536) (omega arith)) (omega (arith, more))
 
-  pub below-here : (keys : List ℕ) (j : ℕ) → j < length keys → b ≤ get_or keys j 0 / 65536 → below b keys ≤ j
+  below-here : (keys : List ℕ) (j : ℕ) → j < length keys → b ≤ get_or keys j 0 / 65536 → below b keys ≤ j
   unfolding find_idx
   below-here [] j h e = absurd (omega arith)
   below-here (key ∷ keys) zero h e = rw (le-leb b (key / 65536) e) (omega arith)
@@ -80,9 +78,36 @@ module _ (b : ℕ) where
       let more = below-most keys in
       in_order b (key / 65536) (λ g. rw (le-leb b (key / 65536) g) (omega arith)) (λ g. rw (lt-leb b (key / 65536) g) (omega (arith, more)))
 
+  -- what halving finds
+  pub parted : {keys : List ℕ} → Ascends keys → IsPartitionedBy (λ (key : ℕ). ltb (key / 65536) b) keys
+  parted {keys} a = IsPartitionedBy-ltb (λ (key : ℕ). key / 65536) keys b (indexes-rise a)
+
+  pub below-point : {keys : List ℕ} → Ascends keys → (i : ℕ) → i ≤ length keys
+      → IsPartitionPoint (λ (key : ℕ). ltb (key / 65536) b ≡ true) (λ (key : ℕ). ltb (key / 65536) b ≡ false) keys i → i ≡ below b keys
+  below-point {keys} a i h p = omega (arith, least i p.0 (omega arith), most)
+    where
+      least : (j : ℕ) → AllWithin (λ (key : ℕ). ltb (key / 65536) b ≡ true) keys 0 j → j ≤ length keys → j ≤ below b keys
+      least zero q k = omega arith
+      least (suc j) q k = below-past a j (omega arith) (ltb-true _ b (q j 0 (omega arith) (omega arith)))
+
+      most : below b keys ≤ i
+      most = in_order (length keys) i (λ g. omega (arith, below-most keys)) (λ g. below-here keys i g (ltb-false _ b (p.1 i 0 (omega arith) g)))
+
+  -- what a search one by one finds
+  pub or-length : (keys : List ℕ) → let at = position_or_len (λ (key : ℕ). leb b (key / 65536)) keys in
+      unwrap_or (cond (ltb at (length keys)) (Some at) None) (length keys) ≡ below b keys
+  unfolding find_idx
+  or-length keys =
+      let at = position_or_len (λ (key : ℕ). leb b (key / 65536)) keys in
+      let is : below b keys ≡ at =
+      is_position_or_len (below b) (λ (key : ℕ). leb b (key / 65536)) refl (λ key keys. let more : suc (below b keys) ≡ 1 + below b keys = omega arith in ap (cond (leb b (key / 65536)) 0) more) keys in
+      in_order (length keys) at
+      (λ h. rw (le-ltb at (length keys) h) (omega (arith, is, below-most keys)))
+      (λ h. rw (lt-ltb at (length keys) h) (sym is))
+
   -- ---- what is passed, and what is left
 
-  pub all-below : (keys : List ℕ) → All (λ key. key / 65536 < b) (take (below b keys) keys)
+  all-below : (keys : List ℕ) → All (λ key. key / 65536 < b) (take (below b keys) keys)
   unfolding find_idx
   all-below [] = All.none
   all-below (key ∷ keys) =

@@ -2,26 +2,29 @@
 use Prim.Native.Nat.{ℕ, zero, suc, ◌+◌, ◌-◌, ◌/◌, ◌%◌, ◌≤◌, ◌<◌, min, max}
 use mathlib.Core.Path.{◌≡◌, refl, sym, ap, ◌∙◌}
 use mathlib.Core.Logic.{◌⊎◌, inl, inr, ⊎_elim}
-use mathlib.Core.List.{List, [], ◌∷◌, ◌++◌, foldl}
+use mathlib.Core.Bool.{true}
+use mathlib.Core.List.{List, [], ◌∷◌, foldl}
 use native.Mathlib.Omega.{arith}
-use lib.ListN.{length, set, take, drop, replicate, length-set, length-drop, length-replicate}
-use lib.Dec.{eqb}
-use lib.Seq.{set_out, take-set-le, drop-set-lt, take-set-lt, drop-set-add, take-suc-set, drop-drop}
-use Rattle.spec_laws.proofs.All.{both, cond-keeps, all_take, all_drop}
-use Rattle.spec.specs.Lists.{All}
+use lib.ListN.{length, set, take, drop, replicate, length-set, length-replicate}
+use lib.Dec.{eqb, ltb}
+use borrow.Author.Tests.{ltb-true}
+use lib.Seq.{set_out, take-set-le, drop-set-lt, take-set-lt, drop-set-add, drop-drop}
+use Rattle.spec_laws.proofs.All.{all-weaken, true-all, both, cond-keeps, all_take, all_drop}
+use Rattle.spec.specs.Lists.{all, All}
 use Rattle.spec.specs.declared.Span.{Span}
 use Rattle.sort.proofs.Cases.{in_order}
 use Rattle.sort.proofs.Ascending.{Ascends}
 use Rattle.length_adjust.specs.declared.range.Range.{Range}
 use Rattle.length_adjust.specs.Marks.{marked_from, marked, segment, marked_in, mark, place_for, found, below, own_keys, bytes_to, places_of, taking_part}
+use Rattle.length_adjust.proofs.Passed.{own-all}
 use Rattle.length_adjust.proofs.Search.{search-marks}
 
 -- ---- the range
 
-abbrev pub lower-key : ℕ → ℕ → ℕ
+abbrev lower-key : ℕ → ℕ → ℕ
 lower-key low key = min low (key % 65536)
 
-abbrev pub higher-key : ℕ → ℕ → ℕ
+abbrev higher-key : ℕ → ℕ → ℕ
 higher-key high key = max high (key % 65536 + 1)
 
 abbrev pub lowest : ℕ → List ℕ → ℕ
@@ -50,13 +53,17 @@ past-most : (most n : ℕ) {keys : List ℕ} → n ≤ most → All (λ key. key
 past-most most n h All.none = h
 past-most most n h (All.more {x = key} g gs) = past-most most (max n (key % 65536 + 1)) (omega arith) gs
 
-pub range-most : (most : ℕ) {keys : List ℕ} → All (λ key. key % 65536 < most) keys → (places_of keys).to ≤ most
+range-most : (most : ℕ) {keys : List ℕ} → All (λ key. key % 65536 < most) keys → (places_of keys).to ≤ most
 range-most most l = past-most most 0 (omega arith) l
+
+-- that of a span's clusters ends within the marks
+pub own-ends : (s : Span) (keys : List ℕ) {n : ℕ} → all (λ (key : ℕ). ltb (key % 65536) n) keys ≡ true → (places_of (own_keys s keys)).to ≤ n
+own-ends s keys {n} e = range-most n (own-all s (all-weaken (λ key t. ltb-true (key % 65536) n t) (true-all _ keys e)))
 
 -- ---- what a search finds is there, or past the marks
 
 -- a place of the range, or none of n marks
-abbrev pub Inside : Range → ℕ → ℕ → Type 0
+abbrev Inside : Range → ℕ → ℕ → Type 0
 Inside r n p = ((r.from ≤ p) × (p < r.to)) ⊎ (p ≡ n)
 
 place_inside : (r : Range) (n b : ℕ) {keys : List ℕ} → All (λ key. Inside r n (key % 65536)) keys → Inside r n (place_for n b keys)
@@ -69,7 +76,7 @@ unfolding found
 all_found r n b zero l = All.none
 all_found r n b (suc m) {keys} l = let left = all_drop (below b keys) l in All.more (place_inside r n b left) (all_found r n (b + 1) m left)
 
-pub found_inside : (keys : List ℕ) (n b m : ℕ) → All (Inside (places_of keys) n) (found n keys b m)
+found_inside : (keys : List ℕ) (n b m : ℕ) → All (Inside (places_of keys) n) (found n keys b m)
 found_inside keys n b m = all_found (places_of keys) n b m (both (λ key p q. inl (p, q)) (all-low 65536 keys) (all_past 0 keys))
 
 -- ---- marks that are set only there
@@ -149,23 +156,8 @@ drop-zeros zero n = let e : n - 0 ≡ n = omega arith in rw e
 drop-zeros (suc k) zero = let e : 0 - suc k ≡ 0 = omega arith in rw e
 drop-zeros (suc k) (suc n) = let e : suc n - suc k ≡ n - k = omega arith in rw e (drop-zeros k n)
 
--- ---- one zero more
-zeros-more : (j : ℕ) → ◌≡◌ {A = List ℕ} (replicate j 0 ++ (0 ∷ [])) (replicate (suc j) 0)
-zeros-more zero = refl
-zeros-more (suc j) = ap {B = List ℕ} (λ r. 0 ∷ r) (zeros-more j)
-
-pub clear-turn : (ms : List ℕ) (from i : ℕ) → from ≤ i → i < length ms → take (i - from) (drop from ms) ≡ replicate (i - from) 0
-    → take (i + 1 - from) (drop from (set ms i 0)) ≡ replicate (i + 1 - from) 0
-clear-turn ms from i h g e =
-    let j = i - from in
-    let at : i ≡ from + j = omega arith in
-    let next : i + 1 - from ≡ suc j = omega arith in
-    rw next
-    (ap (λ (p : ℕ). take (suc j) (drop from (set ms p 0))) at ∙ ap (take (suc j)) (drop-set-add from ms j 0)
-    ∙ take-suc-set (drop from ms) j 0 (rw (length-drop from ms) (omega arith)) ∙ ap (λ (xs : List ℕ). xs ++ (0 ∷ [])) e ∙ zeros-more j)
-
 -- ---- marks that were cleared there: those set are as if all had been cleared
-pub marks-inside : (r : Range) (ms : List ℕ) → r.to ≤ length ms → segment r ms ≡ replicate (r.to - r.from) 0 → {ps : List ℕ} → All (Inside r (length ms)) ps
+marks-inside : (r : Range) (ms : List ℕ) → r.to ≤ length ms → segment r ms ≡ replicate (r.to - r.from) 0 → {ps : List ℕ} → All (Inside r (length ms)) ps
     → marked_in r (mark ms ps) ≡ marked (mark (replicate (length ms) 0) ps)
 marks-inside r ms h e {ps} l =
     let n = length ms in

@@ -1,12 +1,14 @@
 -- The search for a span's clusters: a turn of its loop, and that it marks what a look at all bytes of the span marks. Assumes nothing.
 use Prim.Native.Nat.{ℕ, zero, suc, ◌+◌, ◌-◌, ◌/◌, ◌≤◌, ◌<◌}
-use mathlib.Core.Path.{◌≡◌, refl, sym, ap, ap₂, ◌∙◌}
+use mathlib.Core.Path.{◌≡◌, refl, sym, ap, ap₂, subst, ◌∙◌}
 use mathlib.Core.Logic.{◌⊎◌, inl, inr, ⊎_elim}
 use mathlib.Core.List.{List, [], ◌∷◌}
 use native.Mathlib.Omega.{arith}
-use lib.ListN.{length, get_or, set, take, drop, length-set}
-use lib.Seq.{drop-cons, drop-drop, set_out}
+use lib.ListN.{length, get_or, set, take, drop, length-set, length-drop}
+use lib.Seq.{set_out}
 use borrow.Author.Tests.{ne_eqb}
+use Rattle.std.specs.Prelude.{Some, None}
+use Rattle.std.specs.List.{slice_get}
 use Rattle.spec.specs.Lists.{find_idx, All}
 use Rattle.spec.specs.declared.Span.{Span}
 use Rattle.spec_laws.proofs.All.{first, all-weaken}
@@ -45,29 +47,69 @@ found_some : (n b key : ℕ) {keys : List ℕ} → All (λ j. b ≤ j / 65536) (
 unfolding found place_for
 found_some n b key l m = rw (none_below b l)
 
--- a turn at byte b goes on from the key at k to that at q
-module _ (keys : List ℕ) (k b q : ℕ) (h : k < length keys) (a : Ascends keys) (l : All (λ key. b ≤ key / 65536) (drop k keys)) (e : q ≡ k + below (b + 1) (drop k keys)) where
-  key-there : drop k keys ≡ get_or keys k 0 ∷ drop (suc k) keys
-  key-there = drop-cons keys k 0 h
+-- a turn at byte b, of the first key and the keys that it leaves
+pub record Turned (n b key : ℕ) (keys left : List ℕ) : Type 0 where
+  pub fewer : length left ≤ length keys
+  pub ascends : Ascends left
+  pub from : All (λ j. b + 1 ≤ j / 65536) left
+  pub bytes : bytes_to b keys ≡ suc (bytes_to (b + 1) left)
+  pub finds : found n keys b (bytes_to b keys) ≡ place_for n b (key ∷ []) ∷ found n left (b + 1) (bytes_to (b + 1) left)
 
-  keys-left : drop (below (b + 1) (drop k keys)) (drop k keys) ≡ drop q keys
-  keys-left = rw (e, drop-drop (below (b + 1) (drop k keys)) k keys)
+next-turn : (n b : ℕ) {key : ℕ} {later : List ℕ} → Ascends (key ∷ later) → All (λ j. b ≤ j / 65536) (key ∷ later)
+    → Turned n b key (key ∷ later) (drop (below (b + 1) (key ∷ later)) (key ∷ later))
+next-turn n b {key} {later} a l =
+    let keys = key ∷ later in
+    let left = drop (below (b + 1) keys) keys in
+    let bytes : bytes_to b keys ≡ suc (bytes_to (b + 1) left) = bytes-some b key l ∙ ap suc (sym (bytes-skip (b + 1) keys)) in
+    let m = bytes_to (b + 1) left in
+    record {
+      fewer = rw length-drop (omega arith);
+      ascends = drop-ascends (below (b + 1) keys) a;
+      from = not-below (b + 1) a;
+      bytes = bytes;
+      finds = ap (found n keys b) bytes ∙ found_some n b key l m ∙ ap {B = List ℕ} (λ r. place_for n b (key ∷ []) ∷ r) (sym (found-skip n (b + 1) m a));
+    }
 
-  pub left-from : All (λ key. b + 1 ≤ key / 65536) (drop q keys)
-  left-from = rw (← keys-left) (not-below (b + 1) (drop-ascends k a))
+begins : (keys : List ℕ) {key : ℕ} → Some key ≡ slice_get keys 0 → keys ≡ key ∷ drop 1 keys
+begins [] e = absurd (let z : ◌≡◌ {A = ℕ} 0 1 = cc in omega arith)
+begins (k ∷ ks) e = cc
 
-  pub bytes-turn : bytes_to b (drop k keys) ≡ suc (bytes_to (b + 1) (drop q keys))
-  bytes-turn =
-      let some : bytes_to b (drop k keys) ≡ suc (bytes_to (b + 1) (drop k keys)) = rw key-there (bytes-some b (get_or keys k 0) (rw key-there at l)) in
-      some ∙ ap suc (sym (bytes-skip (b + 1) (drop k keys)) ∙ ap (bytes_to (b + 1)) keys-left)
+pub none-left : (keys : List ℕ) → None ≡ slice_get keys 0 → keys ≡ []
+none-left [] e = refl
+none-left (k ∷ ks) e = absurd (let z : ◌≡◌ {A = ℕ} 0 1 = cc in omega arith)
 
-  pub found_turn : (n : ℕ) → found n (drop k keys) b (bytes_to b (drop k keys)) ≡ place_for n b (get_or keys k 0 ∷ []) ∷ found n (drop q keys) (b + 1) (bytes_to (b + 1) (drop q keys))
-  found_turn n =
-      let m = bytes_to (b + 1) (drop q keys) in
-      let place = place_for n b (get_or keys k 0 ∷ []) in
-      let some : found n (drop k keys) b (suc m) ≡ place ∷ found n (drop k keys) (b + 1) m = rw key-there (found_some n b (get_or keys k 0) (rw key-there at l) m) in
-      ap (found n (drop k keys) b) bytes-turn ∙ some
-      ∙ ap {B = List ℕ} (λ r. place ∷ r) (sym (found-skip n (b + 1) m (drop-ascends k a)) ∙ ap (λ (ks : List ℕ). found n ks (b + 1) m) keys-left)
+pub turn : (n b : ℕ) {key : ℕ} {keys left : List ℕ} → Some key ≡ slice_get keys 0 → Ascends keys → All (λ j. b ≤ j / 65536) keys → left ≡ drop (below (b + 1) keys) keys
+    → Turned n b key keys left
+turn n b {key} {keys} {left} e a l q =
+    let f = begins keys e in
+    rw q (subst (λ (ks : List ℕ). Turned n b key ks (drop (below (b + 1) ks) ks)) (sym f) (next-turn n b (subst Ascends f a) (subst (All (λ j. b ≤ j / 65536)) f l)))
+
+bytes_most : (b e : ℕ) {keys : List ℕ} → All (λ key. key / 65536 < e) keys → bytes_to b keys ≤ e - b
+unfolding bytes_to
+bytes_most b e All.none = omega arith
+bytes_most b e (All.more h hs) = omega (arith, h, bytes_most b e hs)
+
+all-fit : (keys : List ℕ) → ((i : ℕ) → get_or keys i 0 < 4294967296) → All (λ key. key / 65536 < 65536) keys
+all-fit [] h = All.none
+all-fit (key ∷ keys) h = let first-fits = h 0 in All.more (omega arith) (all-fit keys (λ i. h (suc i)))
+
+pub bytes-few : (b : ℕ) (keys : List ℕ) → ((i : ℕ) → get_or keys i 0 < 4294967296) → bytes_to b keys ≤ 65536 - b
+bytes-few b keys h = bytes_most b 65536 (all-fit keys h)
+
+-- a key that is left is a byte that is left
+pub bytes-left : {b : ℕ} (keys : List ℕ) {key : ℕ} → Some key ≡ slice_get keys 0 → All (λ j. b ≤ j / 65536) keys → 0 < bytes_to b keys
+bytes-left {b} keys {key} e l = omega (arith, ap (bytes_to b) (begins keys e) ∙ bytes-some b key (subst (All (λ j. b ≤ j / 65536)) (begins keys e) l))
+
+-- the first key is not below b, and where its byte index is another, none is passed
+not-past : {b : ℕ} (keys : List ℕ) {key : ℕ} → Some key ≡ slice_get keys 0 → All (λ j. b ≤ j / 65536) keys → b ≤ key / 65536
+not-past {b} keys e l = first (subst (All (λ j. b ≤ j / 65536)) (begins keys e) l)
+
+pub stays : (b : ℕ) (keys : List ℕ) {key : ℕ} → Some key ≡ slice_get keys 0 → All (λ j. b ≤ j / 65536) keys → (key / 65536 ≡ b → ⊥)
+    → drop (below (b + 1) keys) keys ≡ keys
+stays b keys {key} e l apart =
+    let f = begins keys e in
+    let past = not-past keys e l in
+    ap (λ (k : ℕ). drop k keys) (ap (below (b + 1)) f ∙ below-stop (b + 1) key (drop 1 keys) (in_order (b + 1) (key / 65536) (λ h. h) (λ h. absurd (apart (omega arith)))))
 
 -- ---- all bytes of a span: those behind its last cluster mark nothing
 
@@ -105,11 +147,6 @@ module _ (n c : ℕ) where
   unfolding bytes_to first_of
   first_past b All.none g = refl
   first_past b (All.more {x = key} h hs) g = rw (ne_eqb (key / 65536) c (λ e. omega (arith, h, g, e))) (first_past b hs (omega (arith, g)))
-
-bytes_most : (b e : ℕ) {keys : List ℕ} → All (λ key. key / 65536 < e) keys → bytes_to b keys ≤ e - b
-unfolding bytes_to
-bytes_most b e All.none = omega arith
-bytes_most b e (All.more h hs) = omega (arith, h, bytes_most b e hs)
 
 module _ (n : ℕ) (s : Span) {keys : List ℕ} (a : Ascends keys) where
   -- the first cluster of a byte index, among the span's own keys and among all

@@ -1,5 +1,5 @@
 -- The marks say which clusters take part: those that the span covers, and of one byte index only the first. Assumes nothing.
-use Prim.Native.Nat.{ℕ, zero, suc, ◌+◌, ◌-◌, ◌*◌, ◌/◌, ◌%◌, ◌≤◌, ◌<◌}
+use Prim.Native.Nat.{ℕ, zero, suc, ◌+◌, ◌-◌, ◌*◌, ◌%◌, ◌≤◌, ◌<◌}
 use mathlib.Core.Path.{◌≡◌, refl, sym, ap, ap₂, ◌∙◌}
 use mathlib.Core.Bool.{Bool, true, false, not, cond, ◌||◌, ◌&&◌}
 use mathlib.Core.List.{List, [], ◌∷◌, map}
@@ -12,10 +12,12 @@ use borrow.Author.Tests.{eq-eqb, ne_eqb, lt-ltb, le-ltb, le-leb, lt-leb}
 use Rattle.spec.specs.Lists.{all, any, elem, find_idx, All}
 use Rattle.spec.specs.declared.Span.{Span}
 use Rattle.spec.specs.Position.{entries, logical_order}
-use Rattle.spec.specs.LengthAdjust.{places_from}
+use Rattle.spec.specs.LengthAdjust.{places_from, cluster_indexes}
 use Rattle.spec.specs.Looked.{bytes_looked}
 use Rattle.spec_laws.proofs.All.{all-weaken, all_true}
-use Rattle.cluster_table.specs.Clusters.{indexes_in}
+use Rattle.spec.specs.declared.Cluster.{Cluster}
+use Rattle.spec.specs.Arithmetic.{indexes}
+use Rattle.spec.specs.Cluster.{rounded}
 use Rattle.sort.specs.Sorted.{ascending}
 use Rattle.text_order.specs.Keys.{key_of, keys_of}
 use Rattle.text_order.specs.Ordered.{Ordered}
@@ -24,10 +26,11 @@ use Rattle.sort.proofs.Insertion.{all-sorted}
 use Rattle.sort.proofs.Ascending.{sorted-ascends, ascending-of-ascends}
 use Rattle.text_order.proofs.TextKeys.{order-keys}
 use Rattle.text_order.proofs.Keys.{indexes-length}
-use Rattle.length_adjust.specs.Marks.{marked_from, marked, mark, taking_part}
+use Rattle.length_adjust.specs.declared.range.Range.{Range}
+use Rattle.length_adjust.specs.Marks.{marked_from, marked, marked_in, mark, taking_part}
 use Rattle.length_adjust.proofs.Cases.{same_or_not}
 use Rattle.length_adjust.proofs.Firsts.{up_from, found-places}
-use Rattle.length_adjust.proofs.Bytes.{index_of, text-looked}
+use Rattle.length_adjust.proofs.Bytes.{index_of, text-looked, looked-most}
 
 -- 1 for each byte index that takes part where a span goes from lo to hi; `seen` came before
 abbrev takes : ℕ → ℕ → List ℕ → ℕ → Bool
@@ -130,25 +133,35 @@ unfolding entries
 keys-places k n [] h g = All.none
 keys-places k n (i ∷ is) h g = All.more {x = i * 65536 + k} (omega arith) (keys-places (suc k) n is (omega arith) g)
 
--- ---- the same of n stored clusters
+-- ---- the same of clusters
 
-module _ {keys : List ℕ} {words : List (List ℕ)} {n : ℕ} (all-keys : length keys ≡ n) (o : Ordered keys words n) where
-  order_is : keys ≡ map key_of (logical_order (indexes_in words n))
-  order_is = sym (take_all n keys (omega arith)) ∙ o.keys
+-- what a search for a span's clusters came to: those that take part are marked, and the bytes that were looked at are counted
+pub record Found (s : Span) (cs : List Cluster) (within : Range) (marks : List ℕ) (looked : ℕ) : Type 0 where
+  pub places : marked_in within marks ≡ cluster_indexes rounded s cs
+  pub bytes : looked ≡ bytes_looked s (indexes rounded cs)
+  pub most : looked ≤ s.end
 
-  few : length (indexes_in words n) ≤ 65536
-  few = rw (indexes-length words n o.rows) o.few
+module _ {keys : List ℕ} {cs : List Cluster} (all-keys : length keys ≡ length cs) (o : Ordered keys cs) where
+  order_is : keys ≡ map key_of (logical_order (indexes rounded cs))
+  order_is = sym (take_all (length cs) keys (omega arith)) ∙ o.keys
 
-  pub marks-say : (s : Span) → marked (taking_part s keys n) ≡ places_from s [] 0 (indexes_in words n)
-  marks-say s = ap (λ (k : ℕ). marked (taking_part s keys k)) (sym (indexes-length words n o.rows)) ∙ taking-part s (indexes_in words n) keys few order_is
+  few-indexes : length (indexes rounded cs) ≤ 65536
+  few-indexes = rw (indexes-length cs) o.few
 
   pub order-ascends : ascending keys ≡ true
-  order-ascends = rw (order_is, order-keys (indexes_in words n) few) (ascending-of-ascends (sorted-ascends (keys_of (indexes_in words n))))
+  order-ascends = rw (order_is, order-keys (indexes rounded cs) few-indexes) (ascending-of-ascends (sorted-ascends (keys_of (indexes rounded cs))))
 
-  pub order-places : all (λ (key : ℕ). ltb (key % 65536) n) keys ≡ true
+  pub order-places : all (λ (key : ℕ). ltb (key % 65536) (length cs)) keys ≡ true
   order-places =
-      rw (order_is, order-keys (indexes_in words n) few)
-      (all_true _ (all-weaken (λ key p. lt-ltb (key % 65536) n p) (all-sorted (keys-places 0 n (indexes_in words n) (rw (indexes-length words n o.rows) (omega arith)) o.few))))
+      rw (order_is, order-keys (indexes rounded cs) few-indexes)
+      (all_true _ (all-weaken (λ key p. lt-ltb (key % 65536) (length cs) p) (all-sorted (keys-places 0 (length cs) (indexes rounded cs) (rw (indexes-length cs) (omega arith)) o.few))))
 
-  pub order-looked : (s : Span) → bytes_looked s (map (λ (key : ℕ). key / 65536) keys) ≡ bytes_looked s (indexes_in words n)
-  order-looked s = ap (λ (ks : List ℕ). bytes_looked s (map index_of ks)) order_is ∙ text-looked s (indexes_in words n) few
+  pub order-found : (s : Span) {within : Range} {marks : List ℕ} {looked n : ℕ} → n ≡ length cs → looked ≡ bytes_looked s (map index_of keys)
+      → marked_in within marks ≡ marked (taking_part s keys n) → Found s cs within marks looked
+  order-found s {n = n} e l m =
+      let is = indexes rounded cs in
+      record {
+        places = m ∙ ap (λ (k : ℕ). marked (taking_part s keys k)) (e ∙ sym (indexes-length cs)) ∙ taking-part s is keys few-indexes order_is;
+        bytes = l ∙ ap (λ (ks : List ℕ). bytes_looked s (map index_of ks)) order_is ∙ text-looked s is few-indexes;
+        most = omega (arith, l, looked-most s (map index_of keys));
+      }

@@ -2,3 +2,4 @@ pub mod Marks
 pub mod Sums
 pub mod Answer
 pub mod Given
+pub mod Marked

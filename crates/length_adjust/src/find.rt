@@ -5,9 +5,10 @@ ghost use Rattle.spec.specs.Looked.{bytes_looked};
 ghost use Rattle.sort.specs.Sorted.{ascending};
 ghost use Rattle.length_adjust.specs.Marks.{marked_in, marked, mark, found, bytes_to, taking_part};
 
-use crate::keys::{next_key, span_keys};
+use crate::keys::{passed, span_keys};
 use crate::range::{Range, clear, places_of};
 use spec::Span;
+use text_order::place_of;
 
 // What a search came to: where the clusters stand that it marked, and how many bytes it looked at.
 #[derive(Clone, Copy)]
@@ -19,27 +20,27 @@ pub struct Search {
 fn mark_cluster(key: u32, marks: &mut [u32])
     ensures { marks.new ≡ set marks.old (key % 65_536) 1 }
 {
-    let place = (key % 65_536) as usize;
+    let place = place_of(key);
     if place < marks.len() {
         marks[place] = 1;
     }
 }
 
 // Looks at the bytes from `start` on, one after the other, until the clusters of all keys are found, and marks the first of each byte index.
-// How many bytes it looked at is the result.
+// How many bytes it looked at is the result. A turn is a byte, and not a key,
+// so that no iterator over the keys is plainer.
 fn find_clusters(keys: &[u32], start: u32, marks: &mut [u32]) -> u32
     requires { (ascending keys.now ≡ true) × (all (λ (key : ℕ). leb start (key / 65_536)) keys.now ≡ true) }
     ensures { (result ≡ bytes_to start keys.now)
         × (marks.new ≡ mark marks.old (found (length marks.old) keys.now start (bytes_to start keys.now))) }
 {
-    let mut k: usize = 0;
+    let mut rest = keys;
     let mut looked: u32 = 0;
-    while k < keys.len() {
-        let key = keys[k];
+    while let Some(key) = rest.first() {
         let b = start + looked;
-        if key / 65_536 == b {
-            mark_cluster(key, marks);
-            k = next_key(keys, k, b + 1);
+        if *key / 65_536 == b {
+            mark_cluster(*key, marks);
+            rest = &rest[passed(rest, b + 1)..];
         }
         looked += 1;
     }
@@ -57,8 +58,5 @@ pub fn mark_span(span: Span, keys: &[u32], marks: &mut [u32]) -> Search
     let within = places_of(own);
     clear(marks, within);
     let looked = find_clusters(own, span.start as u32, marks);
-    Search {
-        within: within,
-        looked: looked,
-    }
+    Search { within, looked }
 }

@@ -1,26 +1,17 @@
-// Keys in text order, passed over up to a byte index.
-ghost use Rattle.std.specs.Prelude.{◌≡◌, true, ◌+◌, drop};
+// Keys in text order: how many come before a byte index. That they ascend is asked of four functions, each with another part of the keys: a type for
+// it would be made anew at each part.
+ghost use Rattle.std.specs.Prelude.{◌≡◌, true, ◌≤◌, length};
 ghost use Rattle.sort.specs.Sorted.{ascending};
 ghost use Rattle.length_adjust.specs.Marks.{below, own_keys};
 
 use spec::Span;
 
-// How many keys have a byte index below `b`. The keys ascend, so that halving finds it.
+// How many keys have a byte index below `b`. The keys ascend, and a span's own may begin and end anywhere among them, so that halving finds it.
 fn first_key(keys: &[u32], b: u32) -> usize
     requires { ascending keys.now ≡ true }
-    ensures { result ≡ below b keys.now }
+    ensures { (result ≡ below b keys.now) × (result ≤ length keys.now) }
 {
-    let mut low: usize = 0;
-    let mut high = keys.len();
-    while low < high {
-        let middle = low + (high - low) / 2;
-        if keys[middle] / 65_536 < b {
-            low = middle + 1;
-        } else {
-            high = middle;
-        }
-    }
-    low
+    keys.partition_point(|key| *key / 65_536 < b)
 }
 
 // The keys of the span's clusters.
@@ -34,16 +25,12 @@ pub fn span_keys(span: Span, keys: &[u32]) -> &[u32]
     &rest[..end]
 }
 
-// From `k` on, the place of the first key whose byte index is not below `b`.
-pub fn next_key(keys: &[u32], k: usize, b: u32) -> usize
-    ensures { result ≡ k + below b (drop k keys.now) }
+// How many keys come before the first whose byte index is not below `b`, for keys that begin with those of the byte before `b`: these are mostly few,
+// so that steps from the front are fewer than halving takes.
+pub fn passed(keys: &[u32], b: u32) -> usize
+    ensures { (result ≡ below b keys.now) × (result ≤ length keys.now) }
 {
-    let mut j = k;
-    while j < keys.len() {
-        if b <= keys[j] / 65_536 {
-            return j;
-        }
-        j += 1;
-    }
-    j
+    keys.iter()
+        .position(|key| b <= *key / 65_536)
+        .unwrap_or(keys.len())
 }

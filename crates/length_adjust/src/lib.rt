@@ -4,6 +4,7 @@
 pub mod find;
 pub mod glyphs;
 pub mod keys;
+pub mod marked;
 pub mod range;
 pub mod spacing;
 pub mod walk;
@@ -12,62 +13,56 @@ ghost use Rattle.std.specs.Prelude.{◌≡◌, ◌<◌, length};
 ghost use Rattle.spec.specs.Outcome.{given};
 ghost use Rattle.spec.specs.LengthAdjust.{adjust_span, apply_length_adjust};
 ghost use Rattle.spec.specs.Looked.{span_looked, spans_looked};
-ghost use Rattle.cluster_table.specs.Clusters.{clusters_of};
 ghost use Rattle.job_rows.specs.Rows.{spans_in};
 ghost use Rattle.length_adjust.specs.Given.{Adjustable};
 ghost use Rattle.length_adjust.specs.Answer.{adjusted_of};
 
 use crate::find::mark_span;
 use crate::glyphs::adjust_glyphs;
+use crate::marked::Marked;
 use crate::spacing::adjust_spacing;
-use job_rows::numbered::span_in;
-use spec::Span;
+use job_rows::rows::span_at;
+use spec::{Cluster, Refusal, Span};
 
-// The clusters are adjusted, or the job is refused with this number.
-#[derive(Clone, Copy)]
-pub enum Adjusted {
-    Done,
-    Refused(u8),
-}
-
-// What came of a span, or of all, and how many bytes were looked at.
+// What came of a span, or of all, and how many bytes were looked at, also where one was refused.
 #[derive(Clone, Copy)]
 pub struct LengthAdjusted {
-    pub adjusted: Adjusted,
+    pub adjusted: Result<(), Refusal>,
     pub looked: u32,
 }
 
-// By SpacingAndGlyphs (adjust 1), or by what the others take. `keys` is the text order; what `marks` holds before and after is of no account.
+// By SpacingAndGlyphs (adjust 1), or by what the others take. `keys` is the text order, and `marks` is lent
+// since there is no heap; what it holds before and after is of no account.
 pub fn adjust_span(
     span: Span,
     keys: &[u32],
     marks: &mut [u32],
-    floats: &mut [[f32; 10]],
-    words: &mut [[u32; 6]],
+    clusters: &mut [Cluster],
 ) -> LengthAdjusted
-    requires { (length keys.now ≡ length marks.old) × Adjustable keys.now marks.old floats.old words.old (length marks.old) }
-    ensures { (adjusted_of result.adjusted (clusters_of floats.new words.new (length marks.old))
-        ≡ adjust_span (given (clusters_of floats.old words.old (length marks.old))) span)
-        × (result.looked ≡ span_looked (given (clusters_of floats.old words.old (length marks.old))) span) × (result.looked < 65_536) }
+    requires { (length keys.now ≡ length clusters.old) × (length marks.old ≡ length clusters.old)
+        × Adjustable keys.now marks.old clusters.old }
+    ensures { (adjusted_of result.adjusted clusters.new ≡ adjust_span (given clusters.old) span)
+        × (result.looked ≡ span_looked (given clusters.old) span) × (result.looked < 65_536) }
 {
     if span.fixed != 1 {
         return LengthAdjusted {
-            adjusted: Adjusted::Done,
+            adjusted: Ok(()),
             looked: 0,
         };
     }
     let search = mark_span(span, keys, marks);
-    let within = search.within;
-    if span.adjust == 1 {
-        let adjusted = adjust_glyphs(span, floats, words, marks, within);
-        return LengthAdjusted {
-            adjusted: adjusted,
-            looked: search.looked,
-        };
-    }
-    adjust_spacing(span, floats, words, marks, within);
+    let marked = Marked {
+        marks,
+        within: search.within,
+    };
+    let adjusted = if span.adjust == 1 {
+        adjust_glyphs(span, clusters, marked)
+    } else {
+        adjust_spacing(span, clusters, marked);
+        Ok(())
+    };
     LengthAdjusted {
-        adjusted: Adjusted::Done,
+        adjusted,
         looked: search.looked,
     }
 }
@@ -77,50 +72,39 @@ fn adjust_spans(
     spans: &[usize],
     keys: &[u32],
     marks: &mut [u32],
-    floats: &mut [[f32; 10]],
-    words: &mut [[u32; 6]],
+    clusters: &mut [Cluster],
 ) -> LengthAdjusted
-    requires { (length spans.now < 256) × (length keys.now ≡ length marks.old)
-        × Adjustable keys.now marks.old floats.old words.old (length marks.old) }
-    ensures { (adjusted_of result.adjusted (clusters_of floats.new words.new (length marks.old))
-        ≡ apply_length_adjust (spans_in s.now spans.now) (clusters_of floats.old words.old (length marks.old)))
-        × (result.looked ≡ spans_looked (given (clusters_of floats.old words.old (length marks.old))) (spans_in s.now spans.now)) }
+    requires { (length spans.now < 256) × (length keys.now ≡ length clusters.old) × (length marks.old ≡ length clusters.old)
+        × Adjustable keys.now marks.old clusters.old }
+    ensures { (adjusted_of result.adjusted clusters.new ≡ apply_length_adjust (spans_in s.now spans.now) clusters.old)
+        × (result.looked ≡ spans_looked (given clusters.old) (spans_in s.now spans.now)) }
 {
     let mut looked: u32 = 0;
-    let mut i: usize = 0;
-    while i < spans.len() {
-        let span = span_in(s, spans, i);
-        let one = adjust_span(span, keys, marks, floats, words);
+    for at in spans {
+        let one = adjust_span(span_at(s, *at), keys, marks, clusters);
         looked += one.looked;
-        let adjusted = one.adjusted;
-        if let Adjusted::Refused(number) = adjusted {
-            return LengthAdjusted {
-                adjusted: Adjusted::Refused(number),
-                looked: looked,
-            };
+        if one.adjusted.is_err() {
+            return LengthAdjusted { looked, ..one };
         }
-        i += 1;
     }
     LengthAdjusted {
-        adjusted: Adjusted::Done,
-        looked: looked,
+        adjusted: Ok(()),
+        looked,
     }
 }
 
-// Of `n` clusters. `order` has their keys in text order; what `taking` holds before and after is of no account.
+// `order` has the clusters' keys in text order; what `taking` holds before and after is of no account.
 pub fn apply_length_adjust(
     s: &[u8],
     spans: &[usize],
     order: &[u32],
     taking: &mut [u32],
-    floats: &mut [[f32; 10]],
-    words: &mut [[u32; 6]],
-    n: usize,
+    clusters: &mut [Cluster],
 ) -> LengthAdjusted
-    requires { (length spans.now < 256) × Adjustable order.now taking.old floats.old words.old n }
-    ensures { (adjusted_of result.adjusted (clusters_of floats.new words.new n)
-        ≡ apply_length_adjust (spans_in s.now spans.now) (clusters_of floats.old words.old n))
-        × (result.looked ≡ spans_looked (given (clusters_of floats.old words.old n)) (spans_in s.now spans.now)) }
+    requires { (length spans.now < 256) × Adjustable order.now taking.old clusters.old }
+    ensures { (adjusted_of result.adjusted clusters.new ≡ apply_length_adjust (spans_in s.now spans.now) clusters.old)
+        × (result.looked ≡ spans_looked (given clusters.old) (spans_in s.now spans.now)) }
 {
-    adjust_spans(s, spans, &order[..n], &mut taking[..n], floats, words)
+    let n = clusters.len();
+    adjust_spans(s, spans, &order[..n], &mut taking[..n], clusters)
 }

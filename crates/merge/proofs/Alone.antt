@@ -1,13 +1,17 @@
 -- Where no more than one span has glyphs, these are the merged list. Assumes nothing.
-use Prim.Native.Nat.{ℕ, zero, suc, ◌+◌, ◌≤◌, ◌<◌}
-use mathlib.Core.Path.{◌≡◌, refl, ap}
+use Prim.Native.Nat.{ℕ, zero, suc, ◌+◌, ◌-◌, ◌≤◌, ◌<◌}
+use mathlib.Core.Path.{◌≡◌, refl, sym, ap, ◌∙◌}
 use mathlib.Core.Bool.{true, false}
 use mathlib.Core.List.{List, [], ◌∷◌, foldl}
 use native.Mathlib.Nat.{not-suc-le-zero, le_of_suc-le-suc}
 use native.Mathlib.Omega.{arith}
-use lib.ListN.{length, get_or, drop, length-map}
+use lib.Dec.{ltb}
+use borrow.Author.Tests.{lt-ltb, le-ltb}
+use lib.ListN.{length, get_or, drop, length-drop, length-map}
+use Rattle.std.specs.Prelude.{Option, unwrap_or}
+use Rattle.std.specs.List.{position}
+use Rattle.std.proofs.lemmas.List.{drop-map}
 use Rattle.spec_laws.proofs.Records.{length-rows}
-use Rattle.spec_laws.proofs.Outcomes.{mapped}
 use Rattle.spec.specs.Outcome.{given, and_then}
 use Rattle.spec.specs.Lists.{is_empty, find_idx, get_map_or}
 use Rattle.spec.specs.declared.Glyph.{Glyph}
@@ -16,6 +20,7 @@ use Rattle.spec.specs.Decode.{glyph_bytes, glyph_of, glyph_count, parts_of}
 use Rattle.spec.specs.Merge.{merge_done, merge_span, merge_glyphs}
 use Rattle.job_rows.specs.Rows.{parts_in}
 use Rattle.merge.specs.Source.{has_glyphs, glyph_span, span_glyphs}
+use Rattle.merge.proofs.Found.{found}
 
 -- a span without glyphs leaves the list as it is
 none_more : (gs : List Glyph) (p : SpanParts) → p.glyphs ≡ [] → merge_span (given gs) p ≡ given gs
@@ -60,17 +65,12 @@ alone-merged ps h =
     let first : 0 + find_idx has_glyphs ps ≡ find_idx has_glyphs ps = omega arith in
     rw first (only-merged ps (rw first at h))
 
--- ---- the next span of a chunk
-
-pub parts_next : (s spans : List ℕ) (i : ℕ) → i < length spans → drop i (parts_in s spans) ≡ parts_of (drop (get_or spans i 0) s) ∷ drop (i + 1) (parts_in s spans)
-unfolding parts_in
-parts_next s spans i h = mapped (λ (at : ℕ). parts_of (drop at s)) spans i 0 h
+-- ---- a span's own glyphs, counted
 
 pub parts-length : (s spans : List ℕ) → length (parts_in s spans) ≡ length spans
 unfolding parts_in
 parts-length s spans = length-map spans _
 
--- its count says whether it has glyphs
 pub glyphs-counted : (span : List ℕ) → length (parts_of span).glyphs ≡ glyph_count span
 unfolding parts_of
 glyphs-counted span = length-rows (λ b. glyph_bytes) glyph_of (glyph_count span) _
@@ -85,12 +85,28 @@ unfolding is_empty
 no-glyphs p [] e h = rw e refl
 no-glyphs p (g ∷ gs) e h = absurd (not-suc-le-zero h)
 
-module _ (span : List ℕ) where
-  pub counted-some : 0 < glyph_count span → has_glyphs (parts_of span) ≡ true
-  counted-some h = some-glyphs (parts_of span) _ refl (rw (glyphs-counted span) h)
+-- its count says whether it has glyphs
+counted : (span : List ℕ) → has_glyphs (parts_of span) ≡ ltb 0 (glyph_count span)
+counted span = go (glyph_count span) (glyphs-counted span)
+  where
+    go : (n : ℕ) → length (parts_of span).glyphs ≡ n → has_glyphs (parts_of span) ≡ ltb 0 n
+    go zero e = rw (le-ltb 0 0 (omega arith)) (no-glyphs (parts_of span) _ refl (omega arith))
+    go (suc n) e = rw (lt-ltb 0 (suc n) (omega arith)) (some-glyphs (parts_of span) _ refl (omega arith))
 
-  pub counted_none : glyph_count span ≤ 0 → has_glyphs (parts_of span) ≡ false
-  counted_none h = no-glyphs (parts_of span) _ refl (rw (glyphs-counted span) h)
+-- so the first that has any is the first whose count is not 0
+find-counted : (s spans : List ℕ) → find_idx (λ (at : ℕ). ltb 0 (glyph_count (drop at s))) spans ≡ find_idx has_glyphs (parts_in s spans)
+unfolding find_idx parts_in
+find-counted s [] = refl
+find-counted s (at ∷ spans) = rw (counted (drop at s), find-counted s spans)
+
+-- the search from number k on, of n spans left
+pub span-found : (s spans : List ℕ) (k : ℕ) {o : Option ℕ} {r n : ℕ} → o ≡ position (λ (at : ℕ). ltb 0 (glyph_count (drop at s))) (drop k spans)
+    → r ≡ unwrap_or o n → n ≡ length spans - k → k + r ≡ glyph_span (parts_in s spans) k
+unfolding parts_in
+span-found s spans k {n = n} e f g =
+    let rest : n ≡ length (drop k spans) = g ∙ sym (length-drop k spans) in
+    let is = found (λ (at : ℕ). ltb 0 (glyph_count (drop at s))) (drop k spans) e (rw rest at f) in
+    rw (is, find-counted s (drop k spans), drop-map (λ (at : ℕ). parts_of (drop at s)) k spans)
 
 -- ---- the glyphs of one span
 

@@ -1,15 +1,20 @@
--- One turn of the search for a byte index, and its end; the glyph at a place of the list. Assumes nothing.
-use Prim.Native.Nat.{ℕ, zero, suc, ◌+◌, ◌≤◌, ◌<◌}
-use mathlib.Core.Path.{◌≡◌, refl}
-use mathlib.Core.Bool.{Bool, true, false}
+-- The search for a byte index, from a place on; the glyph at a place of the list. Assumes nothing.
+use Prim.Native.Nat.{ℕ, zero, suc, ◌+◌, ◌-◌, ◌≤◌, ◌<◌}
+use mathlib.Core.Path.{◌≡◌, refl, sym, ◌∙◌}
+use mathlib.Core.Bool.{Bool, true, false, cond}
 use mathlib.Core.List.{List, [], ◌∷◌, map}
 use native.Mathlib.Nat.{le_of_suc-le-suc, not-suc-le-zero}
-use native.Mathlib.Numerals.{add-one}
 use native.Mathlib.Omega.{arith}
-use lib.Dec.{eqb}
-use lib.ListN.{length, take, drop, get_or, length-take, drop_of_length-le}
-use lib.Seq.{drop-cons, get_or-take}
-use borrow.Author.Tests.{eq-eqb, ne_eqb}
+use lib.Dec.{eqb, ltb}
+use lib.ListN.{length, take, drop, get_or, length-take}
+use lib.Seq.{get_or-take}
+use borrow.Author.Tests.{ltb-false}
+use Rattle.std.specs.Prelude.{Option, Some, None, unwrap_or}
+use Rattle.std.specs.List.{position, position_or_len}
+use Rattle.std.proofs.lemmas.List.{drop-map, drop-take}
+use Rattle.std.proofs.lemmas.List.Recursion.{is_position_or_len}
+use Rattle.spec_laws.proofs.Search.{find-le}
+use Rattle.merge.proofs.Moved.{glyphs-count}
 use Rattle.spec_laws.proofs.Outcomes.{mapped}
 use Rattle.spec.specs.Lists.{find_idx, get_map_or}
 use Rattle.spec.specs.declared.Glyph.{Glyph}
@@ -17,7 +22,6 @@ use Rattle.spec.specs.Decode.{glyph_of}
 use Rattle.spec.specs.Merge.{place_of, length_at}
 use Rattle.job_rows.specs.Rows.{glyphs_at}
 use Rattle.merge.specs.Merged.{glyphs_in}
-use Rattle.merge.proofs.Moved.{map-drop}
 
 -- nothing before place i has p
 past : {A : Type 0} (p : A → Bool) (l : List A) (i : ℕ) → i ≤ find_idx p l → i + find_idx p (drop i l) ≡ find_idx p l
@@ -32,37 +36,43 @@ past p (x ∷ l) (suc i) h = go (p x) refl (past p l i)
         let k : suc i ≤ suc (find_idx p l) = rw e at h in
         rw e (omega (arith, on (le_of_suc-le-suc k)))
 
-module _ (s rows : List ℕ) (n index : ℕ) where
+module _ {A : Type 0} (p : A → Bool) where
+  find-is : (xs : List A) → find_idx p xs ≡ position_or_len p xs
+  unfolding find_idx
+  find-is xs = is_position_or_len (find_idx p) p refl (λ x xs. let e : 1 + find_idx p xs ≡ suc (find_idx p xs) = omega arith in rw e) xs
+
+  found-choice : (place n : ℕ) (b : Bool) → ltb place n ≡ b → place ≤ n → unwrap_or (cond b (Some place) None) n ≡ place
+  found-choice place n true e h = refl
+  found-choice place n false e h = let above = ltb-false _ _ e in omega arith
+
+  -- the library's search, as the definitions search
+  pub found : (xs : List A) {o : Option ℕ} {r : ℕ} → o ≡ position p xs → r ≡ unwrap_or o (length xs) → r ≡ find_idx p xs
+  found xs e f = rw (f, e, ← find-is xs) (found-choice (find_idx p xs) (length xs) _ refl (find-le p xs))
+
+  pub find-map : {B : Type 0} (f : B → A) (xs : List B) → find_idx p (map f xs) ≡ find_idx (λ (x : B). p (f x)) xs
+  unfolding find_idx
+  find-map f [] = refl
+  find-map f (x ∷ xs) = rw (find-map f xs)
+
+module _ (s rows : List ℕ) (n index from : ℕ) where
+  pub from-le : n ≤ length rows → from ≤ place_of index (glyphs_in s rows n) → from ≤ n
+  from-le k h = omega (arith, find-le (λ (g : Glyph). eqb g.index index) (glyphs_in s rows n), glyphs-count s rows n k)
+
   abbrev glyph_at : ℕ → Glyph
   glyph_at at = glyph_of (drop at s)
 
-  -- where the search ends that has passed i rows
-  abbrev pub place_from : ℕ → ℕ
-  place_from i = i + place_of index (map glyph_at (drop i (take n rows)))
-
-  pub place-from : (i : ℕ) → i ≤ place_of index (glyphs_in s rows n) → place_from i ≡ place_of index (glyphs_in s rows n)
+  -- the search that has passed `from` rows ends where one from the start does
+  pub place-found : from ≤ n → from ≤ place_of index (glyphs_in s rows n) → {o : Option ℕ} {r : ℕ}
+      → (let listed = take (n - from) (drop from rows) in
+      o ≡ position (λ (at : ℕ). eqb (glyph_at at).index index) listed → r ≡ unwrap_or o (length listed) → from + r ≡ place_of index (glyphs_in s rows n))
   unfolding glyphs_in glyphs_at
-  place-from i h = rw (map-drop glyph_at i (take n rows)) (past (λ (g : Glyph). eqb g.index index) (map glyph_at (take n rows)) i h)
-
-  next_row : (i : ℕ) → i < n → n ≤ length rows → drop i (take n rows) ≡ get_or rows i 0 ∷ drop (suc i) (take n rows)
-  next_row i h k =
-      let f : i < length (take n rows) = simp length-take (omega arith) in
-      rw (drop-cons (take n rows) i 0, get_or-take n rows i 0)
-
-  pub place_here : (i : ℕ) → i < n → n ≤ length rows → (glyph_at (get_or rows i 0)).index ≡ index → place_from i ≡ i
-  unfolding find_idx
-  place_here i h k e = rw (next_row i h k, eq-eqb (glyph_at (get_or rows i 0)).index index e) (omega arith)
-
-  pub place-on : (i : ℕ) → i < n → n ≤ length rows → ((glyph_at (get_or rows i 0)).index ≡ index → ⊥) → place_from (i + 1) ≡ place_from i
-  unfolding find_idx
-  place-on i h k e =
-      rw (next_row i h k, ne_eqb (glyph_at (get_or rows i 0)).index index e, add-one i) (omega arith)
-
-  pub place_end : (i : ℕ) → n ≤ i → place_from i ≡ i
-  unfolding find_idx
-  place_end i h =
-      let f : length (take n rows) ≤ i = simp length-take (omega arith) in
-      rw (drop_of_length-le (take n rows) f) (omega arith)
+  place-found k h e f =
+      let is-index = λ (g : Glyph). eqb g.index index in
+      let all : from + (n - from) ≡ n = omega arith in
+      let part : take (n - from) (drop from rows) ≡ drop from (take n rows) = sym (drop-take from (n - from) rows) ∙ rw all in
+      let found-is = found (λ (at : ℕ). is-index (glyph_at at)) _ e f in
+      rw (found-is, part, ← find-map is-index glyph_at (drop from (take n rows)), ← drop-map glyph_at from (take n rows))
+      (past is-index (map glyph_at (take n rows)) from h)
 
 -- what f gives of the glyph at a place of the list
 at_map : {A B C : Type 0} (b : C) (f : B → C) (h : A → B) (d : A) (l : List A) (n p : ℕ) → p < n → n ≤ length l → get_map_or b f (map h (take n l)) p ≡ f (h (get_or l p d))

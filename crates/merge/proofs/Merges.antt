@@ -7,6 +7,9 @@ use mathlib.Core.List.{List, ◌∷◌}
 use native.Mathlib.Omega.{arith}
 use lib.ListN.{length, drop, get_or, set}
 use borrow.Author.Tests.{lt-ltb, le-ltb, le-leb, lt-leb}
+use Rattle.std.specs.Prelude.{Ok, Err}
+use Rattle.std.specs.declared.result.Result.{Result}
+use Rattle.spec.specs.declared.Refusal.{Refusal}
 use Rattle.spec.specs.Lists.{elem}
 use Rattle.spec.specs.declared.Glyph.{Glyph}
 use Rattle.spec.specs.declared.Span.{Span}
@@ -16,9 +19,7 @@ use Rattle.spec.specs.Outcome.{Outcome, refused, given, and_then}
 use Rattle.spec.specs.Merge.{Merging, inserted, removed, skipped, insert_next, replace_longer, replace, replace_first, merge_glyph, span_contains, place_of, length_at}
 use Rattle.merge.specs.Merged.{places_in}
 use Rattle.merge.specs.Steps.{merging_at, merging_of, stamped, AtState}
-use Rattle.merge.specs.declared.step.Progress.{Progress}
-use Rattle.merge.specs.declared.step.Step.{Step}
-use Rattle.merge.specs.declared.step.Step.TheVariants.{Going, Halted}
+use Rattle.merge.specs.declared.progress.Progress.{Progress}
 use Rattle.merge.proofs.Moved.{glyphs-count}
 use Rattle.merge.proofs.Found.{length-there}
 
@@ -31,6 +32,10 @@ module _ (s rows : List ℕ) (at : Progress) (row : ℕ) (positions : List ℕ) 
 
   counted : length m.list ≡ at.count
   counted = glyphs-count s rows at.count held
+
+  -- the code's state after it is skipped
+  pub skips : (at₁ : Progress) → (at₁.count ≡ at.count) × (at₁.owed ≡ 0) × (at₁.next ≡ 0) → given (merging_at at₁ s rows positions) ≡ given (skipped m)
+  skips at₁ e = rw (e.0, e.1, e.2)
 
   pub inserts : at.count < limits.merged
       → insert_next g m ≡ given record { list = inserted at.next g m.list; replaced = positions; owed = at.owed - 1; next = at.next + 1 }
@@ -105,8 +110,8 @@ module _ (s rows : List ℕ) (at : Progress) (row : ℕ) (positions : List ℕ) 
 
 -- ---- a step is the outcome o, and the stamps are those of the places that it remembers
 
-pub stood : {s rows stamps₀ stamps : List ℕ} {stamp : ℕ} {o : Outcome Merging} (r : Step) (positions : List ℕ) → stamps ≡ stamped stamp positions stamps₀ → merging_of r s rows positions ≡ o
+pub stood : {s rows stamps₀ stamps : List ℕ} {stamp : ℕ} {o : Outcome Merging} (r : Result Progress Refusal) (positions : List ℕ) → stamps ≡ stamped stamp positions stamps₀ → merging_of r s rows positions ≡ o
     → AtState r s rows stamp stamps₀ stamps o
 unfolding merging_of places_in
-stood (Going at) positions known e = rw (← e) record { marked = known; is = refl }
-stood (Halted k) positions known e = rw (← e) record { marked = tt; is = refl }
+stood (Ok at) positions known e = rw (← e) record { marked = known; is = refl }
+stood (Err k) positions known e = rw (← e) record { marked = tt; is = refl }

@@ -1,12 +1,13 @@
--- A list with one row carried along a position, or with some left out at it: what a loop that moves rows keeps; and the same done to the
--- glyphs that stand at the rows. Assumes nothing.
-use Prim.Native.Nat.{ℕ, zero, suc, ◌+◌, ◌-◌, ◌≤◌, ◌<◌}
-use mathlib.Core.Path.{◌≡◌, refl, ap}
-use mathlib.Core.List.{List, [], ◌∷◌, ◌++◌, map, map-append, append-nil}
+-- A list with a row inserted at a position, or with some left out at it; and the same done to the glyphs that stand at the rows. Assumes nothing.
+use Prim.Native.Nat.{ℕ, ◌+◌, ◌-◌, ◌≤◌, ◌<◌}
+use mathlib.Core.Path.{◌≡◌, sym, ◌∙◌}
+use mathlib.Core.List.{List, [], ◌∷◌, ◌++◌, map-append, append-nil}
 use native.Mathlib.Numerals.{add-one}
 use native.Mathlib.Omega.{arith}
-use lib.ListN.{length, take, drop, get_or, set, length-take, length-map, drop_of_length-le}
-use lib.Seq.{take-suc-set, drop-cons, drop-drop, take-set-lt, drop-set-lt, get_or-take, append_snoc, take-take}
+use lib.ListN.{length, take, drop, set, length-take, length-drop, length-map}
+use lib.Seq.{paste, take-suc-set, drop-drop, take-set-lt, set-append_left, append_snoc, take-take, take_at, take_all, map-set}
+use Rattle.std.proofs.lemmas.List.{take-map, drop-map, drop-take}
+use Rattle.std.proofs.lemmas.List.Edits.{take-paste}
 use Rattle.spec.specs.Bytes.{rows}
 use Rattle.job_rows.proofs.Walks.{rows-turn, rows-done}
 use Rattle.spec.specs.declared.Glyph.{Glyph}
@@ -16,60 +17,34 @@ use Rattle.job_rows.specs.Rows.{glyphs_at}
 use Rattle.merge.specs.Merged.{glyphs_in}
 
 module _ {A : Type 0} where
-  -- `x` stands before row `i` of the first `end` rows
-  abbrev pub carried : List A → ℕ → ℕ → A → List A
-  carried l end i x = take i l ++ (x ∷ drop i (take end l))
+  -- the first n rows after the first at of l are the rows of l from `from` on
+  copied : (l : List A) (from at n : ℕ) → at ≤ length l → from + n ≤ length l → take (at + n) (paste l at (drop from l) n) ≡ take at l ++ drop from (take (from + n) l)
+  copied l from at n h f =
+      let few : n ≤ length (drop from l) = simp length-drop (omega arith) in
+      take-paste l at (drop from l) n h few ∙ rw (drop-take from n l)
 
-  pub carried_step : (d : A) (l : List A) (end i : ℕ) (x : A) → i < end → end ≤ length l
-      → carried (set l i x) end (i + 1) (get_or l i d) ≡ carried l end i x
-  carried_step d l end i x h f =
-      let f₁ : i < length l = omega arith in
-      let f₂ : i < length (take end l) = simp length-take (omega arith) in
-      let h₂ : i < suc i = omega arith in
-      rw (add-one, take-suc-set l i x, take-set-lt end l i x, drop-set-lt (suc i) (take end l) i x, append_snoc, drop-cons (take end l) i d, get_or-take end l i d)
+  -- the rows from `at` to `end` stand one place later, and `x` before them
+  pub row-inserted : (l : List A) (end at : ℕ) (x : A) → at ≤ end → end < length l
+      → take (end + 1) (set (paste l (at + 1) (drop at l) (end - at)) at x) ≡ take at l ++ x ∷ drop at (take end l)
+  row-inserted l end at x h f =
+      let here : at < length (take (at + 1) l) = simp length-take (omega arith) in
+      let inside : at < length l = omega arith in
+      let e : end + 1 ≡ at + 1 + (end - at) = omega arith in
+      let g : at + (end - at) ≡ end = omega arith in
+      let own : set (take (at + 1) l) at x ≡ take at l ++ x ∷ [] = sym (take-set-lt (at + 1) l at x (omega arith)) ∙ rw add-one (take-suc-set l at x inside) in
+      take-set-lt (end + 1) _ at x (omega arith)
+      ∙ rw (e, copied l at (at + 1) (end - at) (omega arith) (omega arith), g, set-append_left (take (at + 1) l) (drop at (take end l)) at x here, own)
+      (append_snoc (take at l) x (drop at (take end l)))
 
-  pub carried-end : (l : List A) (end : ℕ) (x : A) → end < length l → take (end + 1) (set l end x) ≡ carried l end end x
-  carried-end l end x h =
-      let f : length (take end l) ≤ end = simp length-take (omega arith) in
-      rw (add-one, take-suc-set l end x, drop_of_length-le (take end l) f)
-
-  -- the `k` rows from `i` on are left out of the first `end`
-  abbrev pub without : List A → ℕ → ℕ → ℕ → List A
-  without l end k i = take i l ++ drop (i + k) (take end l)
-
-  pub without-step : (d : A) (l : List A) (end k i : ℕ) → i + k < end → end ≤ length l
-      → without (set l i (get_or l (i + k) d)) end k (i + 1) ≡ without l end k i
-  without-step d l end k i h f =
-      let x : A = get_or l (i + k) d in
-      let f₁ : i < length l = omega arith in
-      let f₂ : i + k < length (take end l) = simp length-take (omega arith) in
-      let h₁ : i < end = omega arith in
-      let h₂ : i < suc (i + k) = omega arith in
-      let e : i + 1 + k ≡ suc (i + k) = omega arith in
-      rw (e, add-one, take-suc-set l i x, take-set-lt end l i x, drop-set-lt (suc (i + k)) (take end l) i x, append_snoc, drop-cons (take end l) (i + k) d, get_or-take end l (i + k) d)
-
-  pub without_end : (l : List A) (end k i : ℕ) → end ≤ i + k → without l end k i ≡ take i l
-  without_end l end k i h =
-      let f : length (take end l) ≤ i + k = simp length-take (omega arith) in
-      rw (drop_of_length-le (take end l) f, append-nil)
+  -- the `k` rows from `at` on are left out of the first `end`
+  pub rows-removed : (l : List A) (end k at : ℕ) → at + k ≤ end → end ≤ length l
+      → take (end - k) (paste l at (drop (at + k) l) (end - (at + k))) ≡ take at l ++ drop (at + k) (take end l)
+  rows-removed l end k at h f =
+      let e : end - k ≡ at + (end - (at + k)) = omega arith in
+      let g : at + k + (end - (at + k)) ≡ end = omega arith in
+      rw (e, copied l (at + k) at (end - (at + k)) (omega arith) (omega arith), g)
 
 -- ---- what is done to the rows is done to the glyphs
-
-module _ {A B : Type 0} (f : A → B) where
-  map-take : (n : ℕ) (l : List A) → map f (take n l) ≡ take n (map f l)
-  map-take zero l = refl
-  map-take (suc n) [] = refl
-  map-take (suc n) (x ∷ xs) = ap {B = List B} (λ r. f x ∷ r) (map-take n xs)
-
-  pub map-drop : (n : ℕ) (l : List A) → map f (drop n l) ≡ drop n (map f l)
-  map-drop zero l = refl
-  map-drop (suc n) [] = refl
-  map-drop (suc n) (x ∷ xs) = map-drop n xs
-
-  map-set : (l : List A) (i : ℕ) (x : A) → map f (set l i x) ≡ set (map f l) i (f x)
-  map-set [] i x = refl
-  map-set (y ∷ l) zero x = refl
-  map-set (y ∷ l) (suc i) x = ap {B = List B} (λ r. f y ∷ r) (map-set l i x)
 
 module _ (s : List ℕ) where
   abbrev glyph_at : ℕ → Glyph
@@ -80,15 +55,20 @@ module _ (s : List ℕ) where
   glyphs-count l n h = rw (length-map (take n l) glyph_at, length-take) (omega arith)
 
   -- the rows l are the first k of m with `row` at place `at`
-  pub glyphs-inserted : (l m : List ℕ) (n k at row : ℕ) → at ≤ k → take n l ≡ carried m k at row → glyphs_in s l n ≡ inserted at (glyph_at row) (glyphs_in s m k)
+  pub glyphs-inserted : (l m : List ℕ) (n k at row : ℕ) → at ≤ k → take n l ≡ take at m ++ row ∷ drop at (take k m) → glyphs_in s l n ≡ inserted at (glyph_at row) (glyphs_in s m k)
   unfolding glyphs_in glyphs_at inserted
   glyphs-inserted l m n k at row h e =
-      rw (e, ← take-take at k m h, map-append, map-take glyph_at at, map-drop glyph_at at)
+      rw (e, ← take-take at k m h, map-append, ← take-map glyph_at at (take k m), ← drop-map glyph_at at (take k m))
 
-  pub glyphs-removed : (l m : List ℕ) (n k at j : ℕ) → at + 1 ≤ k → take n l ≡ without m k j (at + 1) → glyphs_in s l n ≡ removed at j (glyphs_in s m k)
+  pub glyphs-removed : (l m : List ℕ) (n k at j : ℕ) → at + 1 ≤ k → take n l ≡ take (at + 1) m ++ drop (at + 1 + j) (take k m) → glyphs_in s l n ≡ removed at j (glyphs_in s m k)
   unfolding glyphs_in glyphs_at removed
   glyphs-removed l m n k at j h e =
-      rw (e, ← take-take (at + 1) k m h, map-append, map-take glyph_at (at + 1), map-drop glyph_at (at + 1 + j))
+      rw (e, ← take-take (at + 1) k m h, map-append, ← take-map glyph_at (at + 1) (take k m), ← drop-map glyph_at (at + 1 + j) (take k m))
+
+  -- the list l, and whatever rows m stand behind it
+  pub glyphs-front : (l m : List ℕ) (n : ℕ) → length l ≡ n → glyphs_in s (l ++ m) n ≡ glyphs_in s l n
+  unfolding glyphs_in glyphs_at
+  glyphs-front l m n h = rw (take_at l m n h, take_all n l (omega arith))
 
   pub glyphs-set : (l : List ℕ) (n at row : ℕ) → at < n → glyphs_in s (set l at row) n ≡ set (glyphs_in s l n) at (glyph_at row)
   unfolding glyphs_in glyphs_at

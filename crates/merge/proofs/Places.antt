@@ -13,7 +13,7 @@ use Rattle.spec.specs.declared.Glyph.{Glyph}
 use Rattle.spec.specs.Decode.{glyph_of}
 use Rattle.spec.specs.Merge.{Merging, place_of}
 use Rattle.merge.specs.Merged.{glyphs_in}
-use Rattle.merge.specs.Buckets.{bucket_of, buckets_from, buckets_of, lowered, Table, table, table_after, renewed, LowerBounds}
+use Rattle.merge.specs.Buckets.{bucket_of, buckets_from, buckets_of, lowered, Table, table, table_after, renewed, IsFor}
 use Rattle.merge.proofs.Shifted.{After}
 use Rattle.merge.proofs.Found.{glyphs-next}
 
@@ -57,32 +57,29 @@ buckets-known p (g ∷ gs) buckets h b =
         rw (get_or-set_other made (bucket_of g.index) (bucket_of b) p 0 (λ same. other (sym same)), ne_eqb g.index b (λ same. other (ap bucket_of same)))
         (omega arith)
 
-pub index-known : (size : ℕ) (gs : List Glyph) → LowerBounds 0 (buckets_of size gs) gs
+pub index-known : (size : ℕ) (gs : List Glyph) → IsFor (table (buckets_of size gs) 0) gs
 unfolding buckets_of
 index-known size gs = buckets-known 0 gs (replicate size (length gs)) (λ k. omega (arith, filled_at size (length gs) k))
 
-abbrev Known : List Glyph → Table → Type 0
-Known gs t = LowerBounds t.slack t.buckets gs
-
 -- a table that is made anew, or whose slack is within its limit
-renewed-known : (gs : List Glyph) (t : Table) → Known gs t → Known gs (renewed gs t) × ((renewed gs t).slack ≤ 32)
+renewed-known : (gs : List Glyph) (t : Table) → IsFor t gs → IsFor (renewed gs t) gs × ((renewed gs t).slack ≤ 32)
 unfolding renewed
 renewed-known gs t known = go (ltb 32 t.slack) refl
   where
     again : Table
     again = table (buckets_of (length t.buckets) gs) 0
 
-    go : (test : Bool) → ltb 32 t.slack ≡ test → Known gs (cond test again t) × ((cond test again t).slack ≤ 32)
+    go : (test : Bool) → ltb 32 t.slack ≡ test → IsFor (cond test again t) gs × ((cond test again t).slack ≤ 32)
     go true e = (index-known (length t.buckets) gs, omega arith)
     go false e = (known, ltb-false 32 t.slack e)
 
 -- ---- a table t, and the merge of g into the list of a state m, which left the list gs₁
 
-module _ (m : Merging) (g : Glyph) (gs₁ : List Glyph) (after : After m g gs₁) (t : Table) (known : Known m.list t) where
+module _ (m : Merging) (g : Glyph) (gs₁ : List Glyph) (after : After m g gs₁) (t : Table) (known : IsFor t m.list) where
   abbrev gs : List Glyph
   gs = m.list
 
-  lowers : length gs < length gs₁ → LowerBounds (t.slack + 1) (lowered t.buckets g.index m.next) gs₁
+  lowers : length gs < length gs₁ → IsFor (table (lowered t.buckets g.index m.next) (t.slack + 1)) gs₁
   lowers h b = go (eqb (bucket_of g.index) (bucket_of b)) refl
     where
       entry : ℕ
@@ -105,19 +102,19 @@ module _ (m : Merging) (g : Glyph) (gs₁ : List Glyph) (after : After m g gs₁
           rw (get_or-set_other t.buckets entry (bucket_of b) low 0 (λ same. other (sym same)))
           (omega (arith, known b, after.other h b (λ same. other (ap bucket_of same))))
 
-  stays : length gs₁ ≤ length gs → LowerBounds (t.slack + (length gs - length gs₁)) t.buckets gs₁
+  stays : length gs₁ ≤ length gs → IsFor (table t.buckets (t.slack + (length gs - length gs₁))) gs₁
   stays h b = omega (arith, known b, after.shorter h b)
 
-  after-known : Known gs₁ (table_after (length gs) (length gs₁) g.index m.next t)
+  after-known : IsFor (table_after (length gs) (length gs₁) g.index m.next t) gs₁
   unfolding table_after
   after-known = go (ltb (length gs) (length gs₁)) refl
     where
       go : (test : Bool) → ltb (length gs) (length gs₁) ≡ test
-          → Known gs₁ (cond test (table (lowered t.buckets g.index m.next) (t.slack + 1)) (table t.buckets (t.slack + (length gs - length gs₁))))
+          → IsFor (cond test (table (lowered t.buckets g.index m.next) (t.slack + 1)) (table t.buckets (t.slack + (length gs - length gs₁)))) gs₁
       go true e = lowers (ltb-true (length gs) (length gs₁) e)
       go false e = stays (ltb-false (length gs) (length gs₁) e)
 
   -- t₁ is the table after the step, and t₂ after that
   pub next_known : (old count index : ℕ) → length gs ≡ old → length gs₁ ≡ count → index ≡ g.index → (t₁ t₂ : Table) → t₁ ≡ table_after old count index m.next t → t₂ ≡ renewed gs₁ t₁
-      → Known gs₁ t₂ × (t₂.slack ≤ 32)
+      → IsFor t₂ gs₁ × (t₂.slack ≤ 32)
   next_known old count index old-is count-is index_is t₁ t₂ e f = rw (f, e, ← old-is, ← count-is, index_is) (renewed-known gs₁ _ after-known)

@@ -10,7 +10,7 @@ use lib.Seq.{drop-cons, drop-drop}
 use Rattle.spec.specs.Outcome.{Outcome, refused, given}
 use Rattle.spec.specs.Bytes.{rows as records}
 use Rattle.spec.specs.declared.Glyph.{Glyph}
-use Rattle.spec.specs.Job.{SpanParts, limits}
+use Rattle.spec.specs.Job.{SpanParts}
 use Rattle.spec.specs.Decode.{glyph_of, glyph_bytes, glyph_count_at, glyph_count, span_of, parts_of}
 use Rattle.spec.specs.Merge.{Merging, span_begun, merge_glyph, merge_done, merge_span, merge_glyphs}
 use Rattle.spec_laws.proofs.All.{first, rest}
@@ -34,9 +34,6 @@ own-glyphs s row at p k n row_is p-is k-is n-is =
 module _ (s : List ℕ) (parts : SpanParts) (first n : ℕ) (own : records (λ b. glyph_bytes) glyph_of n (drop first s) ≡ parts.glyphs) where
   pub own-count : n ≡ length parts.glyphs
   own-count = rw (← own, length-rows)
-
-  pub own-few : FewGlyphs parts → n ≤ limits.glyphs
-  own-few h = rw (← own, length-rows) at h
 
   -- which is not empty
   module _ (rows : List ℕ) (count : ℕ) (some : 0 < count) (held : count ≤ length rows) where

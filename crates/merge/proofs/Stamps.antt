@@ -8,14 +8,16 @@ use lib.Dec.{eqb}
 use lib.ListN.{length, get_or, set, replicate, length-replicate, length-set, get_or-replicate}
 use lib.Seq.{get_or-set_same, get_or-set_other}
 use borrow.Author.Tests.{eqb-true, eqb-false, eq-eqb, ne_eqb}
+use Rattle.std.specs.Prelude.{Ok}
+use Rattle.std.specs.declared.result.Result.{Result}
+use Rattle.spec.specs.declared.Refusal.{Refusal}
 use Rattle.spec_laws.proofs.IfGiven.{of-given}
 use Rattle.spec.specs.Outcome.{Outcome}
 use Rattle.spec.specs.Lists.{any, elem}
 use Rattle.spec.specs.declared.Glyph.{Glyph}
 use Rattle.merge.specs.Merged.{merged_of}
+use Rattle.merge.specs.declared.progress.Marks.{Marks}
 use Rattle.merge.specs.Steps.{StampsBelow, stamped, SpanMerged}
-use Rattle.merge.specs.declared.Merge.{Merge}
-use Rattle.merge.specs.declared.Merge.TheVariants as M
 
 pub below-clear : (n : ℕ) → StampsBelow 1 (replicate n 0)
 below-clear n p h = let k : p < n = rw length-replicate at h in rw (get_or-replicate {A = ℕ} n p 0 0 k) (omega arith)
@@ -50,7 +52,7 @@ module _ (stamp : ℕ) where
     remembered ps e p = rw e (among-stamped ps p)
 
 -- after a span's merge that was not refused
-pub ended-below : {r : Merge} {s rows stamps stamps₁ places : List ℕ} {stamp n : ℕ} {o : Outcome (List Glyph)} → SpanMerged r s rows stamps stamps₁ stamp places o → r ≡ M.Merged n
-    → StampsBelow stamp stamps → StampsBelow (stamp + 1) stamps₁
+pub ended-below : {r : Result ℕ Refusal} {s rows places : List ℕ} {marks marks₁ : Marks} {n : ℕ} {o : Outcome (List Glyph)} → SpanMerged r s rows marks marks₁ places o → r ≡ Ok n
+    → StampsBelow marks.stamp marks.stamps → StampsBelow (marks₁.stamp + 1) marks₁.stamps
 unfolding merged_of
-ended-below {places = places} ended e less = rw (of-given _ _ _ ended.marked (sym (rw e at ended.is))) (below-stamped _ _ less places)
+ended-below {places = places} ended e less = rw (ended.same-span, of-given _ _ _ ended.marked (sym (rw e at ended.is))) (below-stamped _ _ less places)

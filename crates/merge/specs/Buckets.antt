@@ -2,6 +2,7 @@
 use Rattle.std.specs.Prelude.{ℕ, ◌+◌, ◌-◌, ◌≤◌, min, ◌/◌, cond, List, [], ◌∷◌, ltb, get_or, length, set, replicate}
 use Rattle.spec.specs.declared.Glyph.{Glyph}
 use Rattle.spec.specs.Merge.{place_of}
+use Rattle.merge.specs.declared.index.FirstPlaces.{FirstPlaces}
 
 -- the entry of a byte index: 32 neighbours share one
 abbrev pub bucket_of : ℕ → ℕ
@@ -28,6 +29,10 @@ pub record Table : Type 0 where
 abbrev pub table : List ℕ → ℕ → Table
 table buckets slack = record { buckets = buckets; slack = slack }
 
+-- as the code holds it
+abbrev pub seen : FirstPlaces → Table
+seen t = table t.buckets.now t.slack
+
 -- after a step that took the list from `old` to `count` glyphs: where it is longer, a glyph of byte index b was inserted at `place`
 unfoldable pub table_after : ℕ → ℕ → ℕ → ℕ → Table → Table
 table_after old count b place t =
@@ -37,6 +42,6 @@ table_after old count b place t =
 unfoldable pub renewed : List Glyph → Table → Table
 renewed gs t = cond (ltb 32 t.slack) (table (buckets_of (length t.buckets) gs) 0) t
 
--- no entry of the table is more than `slack` past the place of the first glyph of one of its byte indexes. Past the table's end it counts as 0
-abbrev pub LowerBounds : ℕ → List ℕ → List Glyph → Type 0
-LowerBounds slack buckets gs = (b : ℕ) → get_or buckets (bucket_of b) 0 ≤ place_of b gs + slack
+-- no entry of the table is more than its slack past the place of the first glyph of one of its byte indexes. Past the table's end it counts as 0
+abbrev pub IsFor : Table → List Glyph → Type 0
+IsFor t gs = (b : ℕ) → get_or t.buckets (bucket_of b) 0 ≤ place_of b gs + t.slack

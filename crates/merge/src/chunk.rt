@@ -1,22 +1,23 @@
 // The merge of a chunk: span by span into one list, whose rows the caller lends.
-ghost use Rattle.std.specs.Prelude.{◌≡◌, ◌+◌, ◌≤◌, ◌<◌, length, drop};
+ghost use Rattle.std.specs.Prelude.{◌≡◌, ◌+◌, ◌≤◌, ◌<◌, length, drop, IfOk};
+ghost use Rattle.spec.specs.Job.{limits};
 ghost use Rattle.spec.specs.Outcome.{given};
 ghost use Rattle.spec.specs.Bytes.{rows as records};
 ghost use Rattle.spec.specs.Decode.{glyph_of, glyph_bytes, parts_of};
 ghost use Rattle.spec.specs.Merge.{merge_span, merge_glyphs};
 ghost use Rattle.job_rows.specs.Rows.{parts_in};
-ghost use Rattle.merge.specs.Merged.{glyphs_in, merged_of, merged_into, replaced_places, CountOk, FewGlyphs, Mergeable};
-ghost use Rattle.merge.specs.Buckets.{LowerBounds};
-ghost use Rattle.merge.specs.Steps.{SpanReady, OwnFew, SpanMerged, SpanEnded};
+ghost use Rattle.merge.specs.Merged.{glyphs_in, merged_of, merged_into, replaced_places, FewGlyphs, Mergeable};
+ghost use Rattle.merge.specs.Buckets.{table, IsFor};
+ghost use Rattle.merge.specs.Steps.{SpanReady, SpanMerged, SpanEnded};
 
-use crate::Merge;
-use crate::glyph::{GLYPH_STEP, index_at};
-use crate::index::{BUCKET, build_index, follow_step, renew_index};
+use crate::glyph::{GlyphRows, index_at};
+use crate::index::{BUCKET, FirstPlaces, build_index};
 use crate::moves::list_rows;
-use crate::step::{Progress, Step, merge_glyph};
+use crate::progress::{Marks, Progress};
+use crate::step::merge_glyph;
 use job_rows::rows::span_at;
 use job_rows::sizes::{GLYPH_COUNT_BYTES, glyph_count, glyphs_at};
-use spec::{Job, Span};
+use spec::{Job, Refusal, Span};
 use wire::slice::{clamp, tail};
 
 // The entries of a table of first places for the longest text.
@@ -31,79 +32,51 @@ const FEW: usize = 16;
 fn merge_glyphs(
     s: &[u8],
     span: Span,
-    rows: &mut [u32; 1024],
-    stamps: &mut [u8; 1024],
+    rows: &mut [u32; Job::MERGED],
+    marks: &mut Marks,
     buckets: &mut [u16],
-    stamp: u8,
     count: usize,
     own: GlyphRows,
-) -> Merge
-    requires { SpanReady rows.old stamps.old stamp count × OwnFew own × LowerBounds 0 buckets.old (glyphs_in s.now rows.old count) }
-    ensures { SpanEnded result s.now rows.new stamps.old stamps.new stamp
+) -> Result<usize, Refusal>
+    requires { SpanReady marks.old count × IsFor (table buckets.old 0) (glyphs_in s.now rows.old count) }
+    ensures { SpanEnded result s.now rows.new marks.old marks.new
         (merged_into (glyphs_in s.now rows.old count) span s.now own.first own.count) }
 {
-    let mut at = Progress {
-        count,
-        owed: 0,
-        next: 0,
-        slack: 0,
-        stamp,
-    };
-    let mut row = own.first;
-    let mut left = own.count;
-    while 0 < left {
-        match merge_glyph(s, span, rows, stamps, buckets, at, row) {
-            Step::Going(next) => {
-                let slack = follow_step(
-                    buckets,
-                    at.count,
-                    next.count,
-                    index_at(s, row),
-                    at.next,
-                    at.slack,
-                );
-                at = next;
-                at.slack = renew_index(s, rows, next.count, buckets, slack);
-            }
-            Step::Halted(k) => return Merge::Refused(k),
-        }
-        row += GLYPH_STEP;
-        left -= 1;
+    let mut at = Progress::of_list(count);
+    let mut table = FirstPlaces { buckets, slack: 0 };
+    for k in 0..own.count {
+        let row = own.row(k);
+        let next = merge_glyph(s, span, rows, marks, &table, at, row)?;
+        table.follow_step(at, next, index_at(s, row));
+        table.renew(s, rows, next.count);
+        at = next;
     }
-    Merge::Merged(at.count)
+    Ok(at.count)
 }
 
 // The same where a table of first places pays: it is made here, and is for this span only.
 fn merge_many(
     s: &[u8],
     span: Span,
-    rows: &mut [u32; 1024],
-    stamps: &mut [u8; 1024],
-    stamp: u8,
+    rows: &mut [u32; Job::MERGED],
+    marks: &mut Marks,
     count: usize,
     own: GlyphRows,
-) -> Merge
-    requires { SpanReady rows.old stamps.old stamp count × OwnFew own }
-    ensures { SpanEnded result s.now rows.new stamps.old stamps.new stamp
+) -> Result<usize, Refusal>
+    requires { SpanReady marks.old count }
+    ensures { SpanEnded result s.now rows.new marks.old marks.new
         (merged_into (glyphs_in s.now rows.old count) span s.now own.first own.count) }
 {
     let mut buckets = [0u16; BUCKETS];
     build_index(s, rows, count, &mut buckets);
-    merge_glyphs(s, span, rows, stamps, &mut buckets, stamp, count, own)
+    merge_glyphs(s, span, rows, marks, &mut buckets, count, own)
 }
 
-// The glyph rows of a span: the place of the first, and how many there are.
-#[derive(Clone, Copy)]
-pub struct GlyphRows {
-    pub first: u32,
-    pub count: usize,
-}
-
-// Those of the span at `at`.
+// The glyph rows of the span at `at`. That the record is so short and its glyphs so few is asked here and of two callers, which take different values
+// beside them.
 fn glyph_rows(s: &[u8], at: usize) -> GlyphRows
-    requires { length s.now ≤ 1_048_576 }
-    ensures { (result.first ≤ 2_000_000)
-        × (records (λ b. glyph_bytes) glyph_of result.count (drop result.first s.now) ≡ (parts_of (drop at s.now)).glyphs) }
+    requires { (length s.now ≤ 1_048_576) × FewGlyphs (parts_of (drop at s.now)) }
+    ensures { records (λ b. glyph_bytes) glyph_of result.count (drop result.first s.now) ≡ (parts_of (drop at s.now)).glyphs }
 {
     let span = tail(s, at);
     let first = (clamp(s, at) + glyphs_at(span) + GLYPH_COUNT_BYTES) as u32;
@@ -121,7 +94,7 @@ pub fn list_span(s: &[u8], at: usize, rows: &mut [u32]) -> usize
         × (glyphs_in s.now rows.new result ≡ (parts_of (drop at s.now)).glyphs) }
 {
     let own = glyph_rows(s, at);
-    list_rows(rows, own.first, own.count);
+    list_rows(rows, own);
     own.count
 }
 
@@ -129,46 +102,47 @@ pub fn list_span(s: &[u8], at: usize, rows: &mut [u32]) -> usize
 pub fn merge_span(
     s: &[u8],
     at: usize,
-    rows: &mut [u32; 1024],
-    stamps: &mut [u8; 1024],
-    stamp: u8,
+    rows: &mut [u32; Job::MERGED],
+    marks: &mut Marks,
     count: usize,
-) -> Merge
-    requires { (length s.now ≤ 1_048_576) × FewGlyphs (parts_of (drop at s.now)) × SpanReady rows.old stamps.old stamp count }
-    ensures { SpanMerged result s.now rows.new stamps.old stamps.new stamp
+) -> Result<usize, Refusal>
+    requires { (length s.now ≤ 1_048_576) × FewGlyphs (parts_of (drop at s.now)) × SpanReady marks.old count }
+    ensures { SpanMerged result s.now rows.new marks.old marks.new
         (replaced_places (glyphs_in s.now rows.old count) (parts_of (drop at s.now)))
         (merge_span (given (glyphs_in s.now rows.old count)) (parts_of (drop at s.now))) }
 {
     let own = glyph_rows(s, at);
     if count == 0 {
-        return Merge::Merged(list_span(s, at, rows));
+        return Ok(list_span(s, at, rows));
     }
     let span = span_at(s, at);
     if (own.count <= FEW) | (count <= FEW) {
+        // A table with no entry: each search begins at the start.
         let mut none = [0u16; 1];
-        return merge_glyphs(s, span, rows, stamps, &mut none[..0], stamp, count, own);
+        return merge_glyphs(s, span, rows, marks, &mut none[..0], count, own);
     }
-    merge_many(s, span, rows, stamps, stamp, count, own)
+    merge_many(s, span, rows, marks, count, own)
 }
 
-// The glyphs of the spans that stand at the places `spans`, merged span by span into one list: its rows are the first of `rows`. The stamps are cleared
-// once; a span's stamp is its number, from 1 on.
-pub fn process_chunk(s: &[u8], spans: &[usize], rows: &mut [u32; 1024]) -> Merge
-    requires { Mergeable s.now spans.now rows.old }
-    ensures { (length rows.new ≡ 1024)
-        × CountOk result
+// The glyphs of the spans that stand at the places `spans`, merged span by span into one list: its rows are the first of `rows`. The marks are
+// cleared once; a span's stamp is its number, from 1 on.
+pub fn process_chunk(
+    s: &[u8],
+    spans: &[usize],
+    rows: &mut [u32; Job::MERGED],
+) -> Result<usize, Refusal>
+    requires { Mergeable s.now spans.now }
+    ensures { IfOk result (λ n. n ≤ limits.merged)
         × (merged_of result s.now rows.new ≡ merge_glyphs (parts_in s.now spans.now)) }
 {
-    let mut stamps = [0u8; 1024];
+    let mut marks = Marks {
+        stamps: [0; Job::MERGED],
+        stamp: 0,
+    };
     let mut count: usize = 0;
-    let mut i: usize = 0;
-    while i < spans.len() {
-        let stamp = (i + 1) as u8;
-        match merge_span(s, spans[i], rows, &mut stamps, stamp, count) {
-            Merge::Merged(n) => count = n,
-            Merge::Refused(k) => return Merge::Refused(k),
-        }
-        i += 1;
+    for at in spans {
+        marks.stamp += 1;
+        count = merge_span(s, *at, rows, &mut marks, count)?;
     }
-    Merge::Merged(count)
+    Ok(count)
 }

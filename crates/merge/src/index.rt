@@ -2,11 +2,12 @@
 // the list from its start. An entry need not be the place itself. It is enough that no glyph before it has the byte index: the search goes on
 // from there until it meets one. So 32 neighbours share an entry, which keeps the table small, and it need not be made anew for each insertion
 // or removal: the search begins earlier by the table's slack, which is how many glyphs were inserted or removed since.
-ghost use Rattle.std.specs.Prelude.{◌≡◌, ◌-◌, ◌≤◌, length, get_or, set, replicate};
+ghost use Rattle.std.specs.Prelude.{◌≡◌, ◌-◌, ◌≤◌, length, get_or, set};
 ghost use Rattle.merge.specs.Merged.{glyphs_in};
-ghost use Rattle.merge.specs.Buckets.{bucket_of, buckets_of, lowered, table, table_after, renewed};
+ghost use Rattle.merge.specs.Buckets.{bucket_of, buckets_of, lowered, seen, table_after, renewed};
 
 use crate::glyph::index_at;
+use crate::progress::Progress;
 
 // How many neighbouring byte indexes share an entry.
 pub const BUCKET: usize = 32;
@@ -14,20 +15,6 @@ pub const BUCKET: usize = 32;
 // A search walks up to twice as many glyphs as were inserted or removed since the table was made. Past this number it is made anew, which
 // takes a walk of the whole list.
 const SLACK: usize = 32;
-
-// Where the search for byte index `index` begins: at the list's start where the table has no entry for it.
-pub fn search_start(buckets: &[u16], index: u16, slack: usize) -> usize
-    ensures { result ≡ get_or buckets.now (bucket_of index) 0 - slack }
-{
-    let b = index as usize / BUCKET;
-    if b < buckets.len() {
-        let place = buckets[b] as usize;
-        if slack < place {
-            return place - slack;
-        }
-    }
-    0
-}
 
 // The entry for byte index `index`, where the table has one, is `place`.
 fn set_bucket(buckets: &mut [u16], index: u16, place: u16)
@@ -39,27 +26,15 @@ fn set_bucket(buckets: &mut [u16], index: u16, place: u16)
     }
 }
 
-// Every entry is `place`.
-fn fill_buckets(buckets: &mut [u16], place: u16)
-    ensures { buckets.new ≡ replicate (length buckets.old) place }
-{
-    let mut i: usize = 0;
-    while i < buckets.len() {
-        buckets[i] = place;
-        i += 1;
-    }
-}
-
 // The table for a list of `count` glyphs. It is filled with the count, so that a byte index that no glyph has is known to be missing at once.
 // The glyphs are then put from the last to the first, so that the first of a byte index stays.
 pub fn build_index(s: &[u8], rows: &[u32], count: usize, buckets: &mut [u16])
     requires { (count ≤ length rows.now) × (count ≤ 1024) }
     ensures { buckets.new ≡ buckets_of (length buckets.old) (glyphs_in s.now rows.now count) }
 {
-    fill_buckets(buckets, count as u16);
-    let mut i = count;
-    while 0 < i {
-        i -= 1;
+    buckets.fill(count as u16);
+    // By place: no law of the library says what `rev` of `enumerate` gives.
+    for i in (0..count).rev() {
         set_bucket(buckets, index_at(s, rows[i]), i as u16);
     }
 }
@@ -70,42 +45,51 @@ fn lower_bucket(buckets: &mut [u16], index: u16, place: u16)
 {
     let b = index as usize / BUCKET;
     if b < buckets.len() {
-        if place < buckets[b] {
-            buckets[b] = place;
+        buckets[b] = buckets[b].min(place);
+    }
+}
+
+// The table, whose entries are lent, and its slack.
+#[derive(Drop)]
+pub struct FirstPlaces<'a> {
+    pub buckets: &'a mut [u16],
+    pub slack: usize,
+}
+
+impl FirstPlaces<'_> {
+    // Where the search for byte index `index` begins: at the list's start where the table has no entry for it.
+    pub fn search_start(&self, index: u16) -> usize
+        ensures { result ≡ get_or (seen self.now).buckets (bucket_of index) 0 - (seen self.now).slack }
+    {
+        match self.buckets.get(index as usize / BUCKET) {
+            Some(place) => (*place as usize).saturating_sub(self.slack),
+            None => 0,
         }
     }
-}
 
-// The table's slack after a step that took the list from `old` to `count` glyphs. A glyph that was inserted, of byte index `index` at `place`,
-// may be the first of its byte index. No other place is earlier for it, but each entry may be one further from its place.
-pub fn follow_step(
-    buckets: &mut [u16],
-    old: usize,
-    count: usize,
-    index: u16,
-    place: usize,
-    slack: usize,
-) -> usize
-    requires { (old ≤ 1024) × (place ≤ 1024) × (slack ≤ 1024) }
-    ensures { table buckets.new result ≡ table_after old count index place (table buckets.old slack) }
-{
-    if old < count {
-        lower_bucket(buckets, index, place as u16);
-        return slack + 1;
+    // The table after a step from `at` to `next`. A glyph that was inserted, of byte index `index`, may be the first of its byte index. No
+    // other place is earlier for it, but each entry may be one further from its place.
+    pub fn follow_step(&mut self, at: Progress, next: Progress, index: u16)
+        requires { self.old.slack ≤ 1024 }
+        ensures { seen self.new ≡ table_after at.count next.count index at.next (seen self.old) }
+    {
+        if at.count < next.count {
+            lower_bucket(self.buckets, index, at.next as u16);
+            self.slack += 1;
+        } else {
+            let removed = at.count - next.count;
+            self.slack += removed;
+        }
     }
-    let removed = old - count;
-    slack + removed
-}
 
-// The table for a list of `count` glyphs, made anew if its slack is past its limit; the result is its slack then.
-pub fn renew_index(s: &[u8], rows: &[u32], count: usize, buckets: &mut [u16], slack: usize) -> usize
-    requires { (count ≤ length rows.now) × (count ≤ 1024) }
-    ensures { table buckets.new result
-        ≡ renewed (glyphs_in s.now rows.now count) (table buckets.old slack) }
-{
-    if SLACK < slack {
-        build_index(s, rows, count, buckets);
-        return 0;
+    // The table for a list of `count` glyphs, made anew if its slack is past its limit.
+    pub fn renew(&mut self, s: &[u8], rows: &[u32], count: usize)
+        requires { (count ≤ length rows.now) × (count ≤ 1024) }
+        ensures { seen self.new ≡ renewed (glyphs_in s.now rows.now count) (seen self.old) }
+    {
+        if SLACK < self.slack {
+            build_index(s, rows, count, self.buckets);
+            self.slack = 0;
+        }
     }
-    slack
 }

@@ -10,17 +10,16 @@ use job_rows::sizes::glyph_count;
 use wire::slice::tail;
 
 // The number of the first span from number `k` on that has glyphs. Where none has, the number of spans, or `k` where that is past it.
+// A number and no Option, as the definition has it: it is compared with the number of spans.
 pub fn glyph_span(s: &[u8], spans: &[usize], k: usize) -> usize
     ensures { result ≡ glyph_span (parts_in s.now spans.now) k }
 {
-    let mut i = k;
-    while i < spans.len() {
-        if 0 < glyph_count(tail(s, spans[i])) {
-            return i;
-        }
-        i += 1;
-    }
-    i
+    let rest = spans.len().saturating_sub(k);
+    k + spans
+        .iter()
+        .skip(k)
+        .position(|at| 0 < glyph_count(tail(s, *at)))
+        .unwrap_or(rest)
 }
 
 // How many glyphs span number `k` has; none past the last span.

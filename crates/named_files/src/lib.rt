@@ -5,40 +5,47 @@ ghost use Rattle.std.specs.Prelude.{◌≤◌, length};
 
 use std::fs::File;
 use std::io::Read;
+use std::{env, io};
 
-const STDOUT: i32 = 1;
-
-// Opens the file at `path` and prints that name. Where it cannot be opened, says so and answers none.
-pub fn open_argument(rt: &HostRuntime, path: &str) -> Option<File> {
+// Opens the file at `path` and prints that name. Where it cannot be opened, says so and answers none. A write that fails is passed over.
+fn open_argument(rt: &HostRuntime, path: &str) -> Option<File> {
     match File::open(rt, path) {
         Ok(file) => {
-            io::write_all(STDOUT, path.as_bytes());
+            let _ = print!(rt; "{path}");
             Some(file)
         }
         Err(error) => {
-            match eprintln!(rt; "{path}: {error}") {
-                Ok(_) => (),
-                Err(_) => (),
-            }
+            let _ = eprintln!(rt; "{path}: {error}");
             None
         }
     }
 }
 
-// Reads until `buf` is full, the file ends or a read fails, and answers how many bytes it put at the front of `buf`.
-pub fn read_full(file: &mut File, buf: &mut [u8]) -> usize
+// Reads until `buf` is full, the input ends or a read fails, and answers how many bytes it put at the front of `buf`.
+// A `while`, since the library's `read_exact` does not say how many it read, and `read_to_end` asks for a heap.
+pub fn read_full(input: &mut impl Read, buf: &mut [u8]) -> usize
     ensures { result ≤ length buf.new }
 {
-    let mut done: usize = 0;
+    let mut done = 0;
     while done < buf.len() {
-        let n = match file.read(&mut buf[done..]) {
-            Ok(n) => n,
-            Err(_) => 0,
-        };
+        let n = input.read(&mut buf[done..]).unwrap_or(0);
         if n == 0 {
             break;
         }
         done += n;
     }
     done
+}
+
+// Prints the name of each file that an argument names, and hands `show` as many of its first bytes as `buf` has room for.
+pub fn show_each<F: Fn(&[u8])>(rt: &HostRuntime, buf: &mut [u8], show: F) -> io::Result<()>
+    requires { F.IsAlwaysCallable show }
+{
+    for path in env::args(rt)?.skip(1) {
+        if let Some(mut file) = open_argument(rt, path.as_str()) {
+            let n = read_full(&mut file, buf);
+            show(&buf[..n]);
+        }
+    }
+    Ok(())
 }

@@ -1,90 +1,80 @@
--- One turn of a loop that sets the clusters' shifts, and its end: row by row, and along the text order. Assumes nothing.
-use Prim.Native.Nat.{ℕ, ◌+◌, ◌%◌, ◌≤◌, ◌<◌}
-use mathlib.Core.Path.{◌≡◌, sym, ap, ◌∙◌}
-use mathlib.Core.List.{List, [], foldl}
+-- One turn of the loop that shifts the clusters along the text order, and its end; and clusters that are turned. Assumes nothing.
+use Prim.Native.Nat.{ℕ, ◌+◌, ◌<◌}
+use mathlib.Core.Path.{◌≡◌, refl, sym, ap, ◌∙◌}
+use mathlib.Core.List.{List, [], ◌∷◌, map, foldl}
 use native.Mathlib.Omega.{arith}
-use lib.Seq.{drop-set-lt}
-use lib.ListN.{length, get_or, set, drop, drop_of_length-le}
+use lib.Dec.{eqb}
 use lib.Ieee.{Float}
+use lib.ListN.{length, get_or, set, drop}
+use Rattle.std.proofs.lemmas.List.{get_or_default}
+use Rattle.spec_laws.proofs.All.{cond-keeps}
 use Rattle.spec.specs.declared.Cluster.{Cluster}
 use Rattle.spec.specs.Lists.{modify}
 use Rattle.spec.specs.Single.{◌+ᶠ◌, +0}
-use Rattle.spec.specs.Job.{Job}
-use Rattle.spec.specs.Position.{Entry, Shifting, logical_order, character_number, shift_next, resolve_relative_shifts}
+use Rattle.spec.specs.Job.{Job, top_to_bottom}
+use Rattle.spec.specs.Arithmetic.{indexes}
+use Rattle.spec.specs.Position.{Entry, Shifting, logical_order, character_number, shift_next, rotate_shift, rotate_shifts}
 use Rattle.spec.specs.Cluster.{rounded}
-use Rattle.cluster_table.specs.Clusters.{cluster_of, floats_of, clusters_of, indexes_in}
-use Rattle.cluster_table.proofs.Rows.{line-back, clusters-indexes, clusters-floats}
-use Rattle.cluster_table.proofs.LoopSteps.{stored, floats-turn, folded, fold-turn, floats-modify}
+use Rattle.spec.proofs.Loops.{modify-set}
+use Rattle.text_order.specs.Ordered.{Ordered}
+use Rattle.text_order.proofs.KeyPlaces.{order_at}
+use Rattle.text_order.proofs.Keys.{blank}
+use Rattle.text_order.proofs.Order.{place_in, place_inside}
 use Rattle.position.specs.Given.{CharacterNumbersOf}
-use Rattle.position.proofs.TextOrder.{EntryAt, place_inside, number_at}
+use Rattle.position.proofs.TextOrder.{entry-stands, entry-next, entry-place, number_at}
 
--- ---- a stage that sets each cluster's shift
+-- ---- along the text order of the clusters cs
 
--- a row's cluster with another shift keeps the row's words
-shift_back : (x y : Float) (c d : Cluster) (f : List Float) (w : List ℕ) → c ≡ cluster_of f w → d ≡ rounded.with_shift x y c → cluster_of (floats_of d) w ≡ d
-shift_back x y c d f w ec ed = rw ed (line-back c.width c.advance c.spacing x y f w ec)
-
-module _ {S : Type 0} (next : S → Cluster → S) (x y : S → Cluster → Float) where
-  abbrev pub shifting : S → Cluster → Cluster
-  shifting s c = rounded.with_shift (x s c) (y s c) c
-
-  -- c is row i, d what the stage makes of it, and the rows are those that storing d left
-  pub shifting-turn : (s s' : S) (floats : List (List Float)) (words : List (List ℕ)) (n i : ℕ) (c d : Cluster) {floats' : List (List Float)}
-      → c ≡ cluster_of (get_or floats i []) (get_or words i []) → d ≡ shifting s c → s' ≡ next s c → floats' ≡ set floats i (floats_of d)
-      → i < n → n ≤ length floats → n ≤ length words
-      → stored next shifting s' floats' words n (i + 1) ≡ stored next shifting s floats words n i
-  shifting-turn s s' floats words n i c d ec ed es ef h p q =
-      floats-turn next shifting s s' floats words n i c d ec ed es ef (shift_back (x s c) (y s c) c d (get_or floats i []) (get_or words i []) ec ed) h p q
-
-  -- a fold of the rows as they were: what is left of it is untouched
-  pub shifting-past : {B : Type 0} (g : B → Cluster → B) (b b' : B) (s : S) (floats : List (List Float)) (words : List (List ℕ)) (n i : ℕ) (c d : Cluster) {floats' : List (List Float)}
-      → c ≡ cluster_of (get_or floats i []) (get_or words i []) → d ≡ shifting s c → b' ≡ g b c → floats' ≡ set floats i (floats_of d)
-      → i < n → n ≤ length floats → n ≤ length words
-      → folded g b' floats' words n (i + 1) ≡ folded g b floats words n i
-  shifting-past g b b' s floats words n i c d ec ed eb ef h p q =
-      let cs = clusters_of floats words n in
-      let back = shift_back (x s c) (y s c) c d (get_or floats i []) (get_or words i []) ec ed in
-      rw (ef, clusters-floats floats words n i d back h, drop-set-lt (i + 1) cs i d (omega arith)) (fold-turn g b b' floats words n i c ec eb h p q)
-
--- ---- along the text order
-
-module _ (job : Job) (text : List ℕ) (offset : ℕ) (words : List (List ℕ)) (n : ℕ) where
-  abbrev order : List Entry
-  order = logical_order (indexes_in words n)
+module _ (job : Job) (text : List ℕ) (offset : ℕ) (cs : List Cluster) where
+  abbrev order_of : List Entry
+  order_of = logical_order (indexes rounded cs)
 
   abbrev next : Shifting Float Cluster → Entry → Shifting Float Cluster
   next = shift_next rounded job text offset
 
-  abbrev state : Float → Float → List (List Float) → Shifting Float Cluster
-  state x y floats = record { x = x; y = y; clusters = clusters_of floats words n }
+  abbrev state : Float → Float → List Cluster → Shifting Float Cluster
+  state x y ds = record { x = x; y = y; clusters = ds }
 
   -- what becomes of sums and clusters once those from place i of the order on have taken their shifts
-  abbrev pub shifted : Float → Float → List (List Float) → ℕ → Shifting Float Cluster
-  shifted x y floats i = foldl next (state x y floats) (drop i order)
+  abbrev pub shifted : Float → Float → List Cluster → ℕ → Shifting Float Cluster
+  shifted x y ds i = foldl next (state x y ds) (drop i order_of)
 
-  -- c is the cluster whose turn it is, d that cluster with the new sums, k the number of its character
-  pub shift-turn : {keys : List ℕ} (numbers : List ℕ) (x y : Float) (floats : List (List Float)) (i : ℕ) {floats' : List (List Float)} (x' y' : Float) (place k : ℕ) (c d : Cluster)
-      → EntryAt keys words n i → CharacterNumbersOf text offset numbers words n → n ≤ length floats → n ≤ length words
-      → place ≡ get_or keys i 0 % 65536 → k ≡ get_or numbers place 0 → x' ≡ x +ᶠ get_or job.dx k +0 → y' ≡ y +ᶠ get_or job.dy k +0
-      → c ≡ cluster_of (get_or floats place []) (get_or words place []) → d ≡ rounded.with_shift x' y' c → floats' ≡ set floats place (floats_of d)
-      → shifted x' y' floats' (i + 1) ≡ shifted x y floats i
+  -- the cluster whose turn it is stands at `place`, and k is the number of its character
+  pub shift-turn : {order : List ℕ} (numbers : List ℕ) (x y : Float) (ds : List Cluster) (i : ℕ) (x' y' : Float) (place k : ℕ)
+      → Ordered order cs → CharacterNumbersOf text offset numbers cs → length ds ≡ length cs → i < length cs
+      → place ≡ place_in order i → k ≡ get_or numbers place 0 → x' ≡ x +ᶠ get_or job.dx k +0 → y' ≡ y +ᶠ get_or job.dy k +0
+      → shifted x' y' (set ds place (rounded.with_shift x' y' (get_or ds place blank))) (i + 1) ≡ shifted x y ds i
   unfolding shift_next
-  shift-turn numbers x y floats i {floats'} x' y' place k c d e en p q ep ek ex ey ec ed ef =
-      ap (λ (st : Shifting Float Cluster). foldl next st (drop (i + 1) order)) one ∙ sym (ap (foldl next (state x y floats)) e.next)
+  shift-turn {order} numbers x y ds i x' y' place k o en l h ep ek ex ey =
+      ap (λ (st : Shifting Float Cluster). foldl next st (drop (i + 1) order_of)) one ∙ sym (ap (foldl next (state x y ds)) (entry-next o i h))
     where
-      number : k ≡ character_number text offset e.entry.index
-      number = ek ∙ number_at text offset numbers words n place en (place_inside e ep) q ∙ ap (character_number text offset) (rw (ep, e.place) e.index)
+      entry : Entry
+      entry = order_at (indexes rounded cs) i
 
-      stored : clusters_of floats' words n ≡ modify (rounded.with_shift x' y') (clusters_of floats words n) place
-      stored = floats-modify floats words n place c ec (place_inside e ep) p q (rounded.with_shift x' y') d ed ef (shift_back x' y' c d (get_or floats place []) (get_or words place []) ec ed)
+      at : place ≡ entry.place
+      at = ep ∙ entry-place o i h
 
-      one : state x' y' floats' ≡ next (state x y floats) e.entry
-      one = rw (stored, ex, ey, number, ep, e.place)
+      inside : place < length cs
+      inside = omega (arith, ep, place_inside o i h)
 
-  pub shift-done : (x y : Float) (floats : List (List Float)) (i : ℕ) → length (logical_order (indexes_in words n)) ≤ i → shifted x y floats i ≡ state x y floats
-  shift-done x y floats i h = ap (foldl next (state x y floats)) (drop_of_length-le order h)
+      number : k ≡ character_number text offset entry.index
+      number = ek ∙ number_at text offset numbers cs en place inside ∙ ap (character_number text offset) (rw at (entry-stands o i h).there)
 
-  pub shift-all : (floats : List (List Float)) → n ≤ length floats → n ≤ length words
-      → (shifted +0 +0 floats 0).clusters ≡ resolve_relative_shifts rounded job text offset (clusters_of floats words n)
-  unfolding resolve_relative_shifts
-  shift-all floats p q = ap (λ (is : List ℕ). (foldl next (state +0 +0 floats) (logical_order is)).clusters) (sym (clusters-indexes floats words n p q))
+      stored : set ds place (rounded.with_shift x' y' (get_or ds place blank)) ≡ modify (rounded.with_shift x' y') ds place
+      stored =
+          let d = get_or ds place blank in
+          sym (modify-set (rounded.with_shift x' y') ds place d (omega (arith, inside, l)) (get_or_default ds place d blank (omega (arith, inside, l))))
+
+      one : state x' y' (set ds place (rounded.with_shift x' y' (get_or ds place blank))) ≡ next (state x y ds) entry
+      one = rw (stored, ex, ey, number, at)
+
+-- ---- clusters that are turned keep their byte indexes
+
+turn-indexes : (cs : List Cluster) → indexes rounded (map (rotate_shift rounded) cs) ≡ indexes rounded cs
+unfolding rotate_shift
+turn-indexes [] = refl
+turn-indexes (c ∷ cs) = ap {B = List ℕ} (λ is. c.index ∷ is) (turn-indexes cs)
+
+pub turned-indexes : (mode : ℕ) (cs : List Cluster) {turned : List Cluster} → turned ≡ rotate_shifts rounded mode cs → indexes rounded turned ≡ indexes rounded cs
+unfolding rotate_shifts
+turned-indexes mode cs e = rw e (cond-keeps (λ (ds : List Cluster). indexes rounded ds ≡ indexes rounded cs) (eqb mode top_to_bottom) (turn-indexes cs) refl)

@@ -3,7 +3,6 @@
 
 pub mod line;
 pub mod line_extent;
-pub mod order;
 pub mod relative;
 pub mod shifts;
 

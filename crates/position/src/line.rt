@@ -1,46 +1,40 @@
 // The clusters placed along the line.
-ghost use Rattle.std.specs.Prelude.{◌≡◌, ◌≤◌, ◌<◌, length};
+ghost use Rattle.std.specs.Prelude.{◌≡◌, ◌<◌, length};
 ghost use mathlib.Core.List.{foldl};
 ghost use Rattle.spec.specs.Position.{process_anchor, past_advance, placed_from, positioned};
 ghost use Rattle.spec.specs.Cluster.{rounded};
-ghost use Rattle.cluster_table.specs.Clusters.{clusters_of};
 ghost use Rattle.job_rows.specs.Rows.{job_at};
 ghost use Rattle.text_order.specs.Ordered.{Ordered};
 ghost use Rattle.position.specs.Given.{EndsKnown, Placeable, Placed, PlacedChunk};
 
 use crate::Positioned;
 use crate::line_extent::extent_of;
-use crate::order::place_at;
 use crate::relative::mark_relative_shifts;
-use crate::shifts::{resolve_relative_shifts, rotate_shifts, with_shift};
-use cluster_table::{cluster_at, put_floats};
+use crate::shifts::{resolve_relative_shifts, rotate_shifts};
 use spec::{Cluster, Job};
+use text_order::place_of;
 
+// `anchor` stays a number: the definition speaks of the job's.
+#[tactic(auto, unfolding(spec::specs::Position::process_anchor))]
 pub fn process_anchor(anchor: u8, width: f32) -> f32
     ensures { result ≡ process_anchor rounded anchor width }
 {
-    if anchor == 0 {
-        return 0.0;
+    match anchor {
+        0 => 0.0,
+        1 => -width / 2.0,
+        _ => -width,
     }
-    if anchor == 1 {
-        return -width / 2.0;
-    }
-    -width
 }
 
 // Each cluster at its shift and the advances before it, from `start` on. Where the last one ends is returned.
-pub fn place_from(start: f32, floats: &mut [[f32; 10]], words: &[[u32; 6]], n: usize) -> f32
-    requires { (n ≤ length floats.old) × (n ≤ length words.now) }
-    ensures { (clusters_of floats.new words.now n ≡ placed_from rounded start (clusters_of floats.old words.now n))
-        × (result ≡ foldl (past_advance rounded) start (clusters_of floats.old words.now n)) }
+pub fn place_from(start: f32, clusters: &mut [Cluster]) -> f32
+    ensures { (clusters.new ≡ placed_from rounded start clusters.old)
+        × (result ≡ foldl (past_advance rounded) start clusters.old) }
 {
     let mut x = start;
-    let mut i: usize = 0;
-    while i < n {
-        let c = cluster_at(floats, words, i);
-        put_floats(floats, i, with_shift(c, x + c.x, c.y));
-        x = x + c.advance;
-        i += 1;
+    for c in clusters.iter_mut() {
+        c.x = x + c.x;
+        x += c.advance;
     }
     x
 }
@@ -50,43 +44,30 @@ pub fn positioned_between(
     anchor: u8,
     first: Cluster,
     last: Cluster,
-    floats: &mut [[f32; 10]],
-    words: &[[u32; 6]],
-    n: usize,
+    clusters: &mut [Cluster],
 ) -> Positioned
-    requires { EndsKnown first last floats.old words.now n }
-    ensures { Placed (positioned rounded anchor (clusters_of floats.old words.now n))
-        (clusters_of floats.new words.now n) result }
+    requires { EndsKnown first last clusters.old }
+    ensures { Placed (positioned rounded anchor clusters.old) clusters.new result }
 {
-    let e = extent_of(floats, words, n);
+    let e = extent_of(clusters);
     let extent = e.right - e.left;
     let start = first.x - e.left + process_anchor(anchor, extent);
-    let x = place_from(start, floats, words, n);
+    let x = place_from(start, clusters);
     Positioned {
-        extent: extent,
+        extent,
         end_x: x + last.x,
         end_y: last.y,
     }
 }
 
 // First and last are those in text order, found by its keys.
-pub fn positioned(
-    anchor: u8,
-    order: &[u32],
-    floats: &mut [[f32; 10]],
-    words: &[[u32; 6]],
-    n: usize,
-) -> Positioned
-    requires { (0 < n) × (n ≤ length floats.old) × Ordered order.now words.now n }
-    ensures { Placed (positioned rounded anchor (clusters_of floats.old words.now n))
-        (clusters_of floats.new words.now n) result }
+pub fn positioned(anchor: u8, order: &[u32], clusters: &mut [Cluster]) -> Positioned
+    requires { (0 < length clusters.old) × Ordered order.now clusters.old }
+    ensures { Placed (positioned rounded anchor clusters.old) clusters.new result }
 {
-    let first_place = place_at(order, 0);
-    let first = cluster_at(floats, words, first_place);
-    let end = n - 1;
-    let last_place = place_at(order, end);
-    let last = cluster_at(floats, words, last_place);
-    positioned_between(anchor, first, last, floats, words, n)
+    let first = clusters[place_of(order[0])];
+    let last = clusters[place_of(order[clusters.len() - 1])];
+    positioned_between(anchor, first, last, clusters)
 }
 
 // Of a chunk that has clusters.
@@ -96,16 +77,13 @@ pub fn resolve_clusters_positions_horizontal(
     anchor: u8,
     order: &[u32],
     numbers: &[u32],
-    floats: &mut [[f32; 10]],
-    words: &mut [[u32; 6]],
-    n: usize,
+    clusters: &mut [Cluster],
 ) -> Positioned
-    requires { Placeable numbers.now floats.old n × Ordered order.now words.old n }
-    ensures { PlacedChunk (job_at s.now job) anchor numbers.now floats.old words.old n
-        (clusters_of floats.new words.new n) result }
+    requires { Placeable numbers.now clusters.old × Ordered order.now clusters.old }
+    ensures { PlacedChunk (job_at s.now job) anchor numbers.now clusters.old clusters.new result }
 {
-    resolve_relative_shifts(s, job, order, numbers, floats, words, n);
-    rotate_shifts(job.mode, floats, words, n);
-    mark_relative_shifts(s, job, numbers, floats, words, n);
-    positioned(anchor, order, floats, words, n)
+    resolve_relative_shifts(s, job, order, numbers, clusters);
+    rotate_shifts(job.mode, clusters);
+    mark_relative_shifts(s, job, numbers, clusters);
+    positioned(anchor, order, clusters)
 }

@@ -1,15 +1,14 @@
 // How far the clusters reach, with their shifts and before they are placed.
-ghost use Rattle.std.specs.Prelude.{◌≡◌, ◌≤◌, ◌<◌, length};
+ghost use Rattle.std.specs.Prelude.{◌≡◌, ◌<◌, length};
 ghost use Rattle.spec.specs.Arithmetic.{least, greatest};
 ghost use Rattle.spec.specs.Position.{extent_next, extent_of};
 ghost use Rattle.spec.specs.Cluster.{rounded};
-ghost use Rattle.cluster_table.specs.Clusters.{clusters_of};
 ghost use Rattle.position.specs.Given.{extent_in};
 
 use crate::Extent;
-use cluster_table::cluster_at;
 use spec::Cluster;
 
+// Not `f32::min` and `f32::max`: the definitions say which of two zeros stays, and what a NaN does.
 fn least(a: f32, b: f32) -> f32
     ensures { result ≡ least rounded a b }
 {
@@ -22,6 +21,7 @@ fn greatest(a: f32, b: f32) -> f32
     if a < b { b } else { a }
 }
 
+#[tactic(auto, unfolding(spec::specs::Position::extent_next))]
 fn extent_next(e: Extent, c: Cluster) -> Extent
     ensures { extent_in result ≡ extent_next rounded (extent_in e) c }
 {
@@ -35,21 +35,18 @@ fn extent_next(e: Extent, c: Cluster) -> Extent
 }
 
 // Left and right begin at the first cluster's start, where the Rust's infinities come to after one comparison.
-pub fn extent_of(floats: &[[f32; 10]], words: &[[u32; 6]], n: usize) -> Extent
-    requires { (0 < n) × (n ≤ length floats.now) × (n ≤ length words.now) }
-    ensures { extent_in result ≡ extent_of rounded (clusters_of floats.now words.now n) }
+pub fn extent_of(clusters: &[Cluster]) -> Extent
+    requires { 0 < length clusters.now }
+    ensures { extent_in result ≡ extent_of rounded clusters.now }
 {
-    let first = cluster_at(floats, words, 0);
-    let start = 0.0 + first.x;
+    let start = 0.0 + clusters[0].x;
     let mut e = Extent {
         left: start,
         right: start,
         advance: 0.0,
     };
-    let mut i: usize = 0;
-    while i < n {
-        e = extent_next(e, cluster_at(floats, words, i));
-        i += 1;
+    for c in clusters {
+        e = extent_next(e, *c);
     }
     e
 }

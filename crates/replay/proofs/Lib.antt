@@ -1,2 +1,2 @@
 -- Laws that the proofs cite. Assumes nothing.
-pub mod LoopSteps
+pub mod Tests

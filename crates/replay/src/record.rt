@@ -1,4 +1,4 @@
-// The fields of the stored record that a row starts with. A byte past the end counts as 0, and what is cut off is shorter.
+// The fields of a stored record. A byte past the end counts as 0, and what is cut off is shorter.
 ghost use Rattle.std.specs.Prelude.{◌≡◌, ◌<◌};
 ghost use Rattle.replay.specs.Record.{lent_of, number_of, job_of, answer_at, answer_of, size_of};
 
@@ -15,44 +15,60 @@ const LENGTH_BYTES: usize = 4;
 
 const JOB_AT: usize = JOB_LENGTH_AT + LENGTH_BYTES;
 
-// How long a buffer is lent.
-pub fn lent_length(row: &[u8]) -> usize
-    ensures { result ≡ lent_of row.now }
-{
-    u32_at(row, LENT_AT) as usize
+// The record that the bytes start with.
+#[derive(Clone, Copy)]
+pub struct Record<'a> {
+    pub bytes: &'a [u8],
 }
 
-// The refusal's number; 0 where the job is accepted.
-pub fn number(row: &[u8]) -> u8
-    ensures { result ≡ number_of row.now }
-{
-    u8_at(row, NUMBER_AT)
-}
+impl<'a> Record<'a> {
+    // How long a buffer is lent.
+    #[tactic(auto, unfolding(crate::specs::Record::lent_of))]
+    pub fn lent_length(self) -> usize
+        ensures { result ≡ lent_of self.entry.bytes.now }
+    {
+        u32_at(self.bytes, LENT_AT) as usize
+    }
 
-pub fn job(row: &[u8]) -> &[u8]
-    ensures { result.now ≡ job_of row.now }
-{
-    window(row, JOB_AT, u32_at(row, JOB_LENGTH_AT) as usize)
-}
+    // The refusal's number; 0 where the job is accepted.
+    #[tactic(auto, unfolding(crate::specs::Record::number_of))]
+    pub fn number(self) -> u8
+        ensures { result ≡ number_of self.entry.bytes.now }
+    {
+        u8_at(self.bytes, NUMBER_AT)
+    }
 
-// Where the answer's length stands.
-fn answer_at(row: &[u8]) -> usize
-    ensures { (result ≡ answer_at row.now) × (result < 4_294_967_305) }
-{
-    JOB_AT + (u32_at(row, JOB_LENGTH_AT) as usize)
-}
+    #[tactic(auto, unfolding(crate::specs::Record::job_of))]
+    pub fn job(self) -> &'a [u8]
+        ensures { result.now ≡ job_of self.entry.bytes.now }
+    {
+        let length = u32_at(self.bytes, JOB_LENGTH_AT) as usize;
+        window(self.bytes, JOB_AT, length)
+    }
 
-pub fn answer(row: &[u8]) -> &[u8]
-    ensures { result.now ≡ answer_of row.now }
-{
-    let at = answer_at(row);
-    window(row, at + LENGTH_BYTES, u32_at(row, at) as usize)
-}
+    // Where the answer's length stands.
+    #[tactic(auto, unfolding(crate::specs::Record::answer_at))]
+    fn answer_at(self) -> usize
+        ensures { (result ≡ answer_at self.entry.bytes.now) × (result < 4_294_967_305) }
+    {
+        JOB_AT + (u32_at(self.bytes, JOB_LENGTH_AT) as usize)
+    }
 
-// How many bytes it has.
-pub fn size(row: &[u8]) -> usize
-    ensures { result ≡ size_of row.now }
-{
-    let at = answer_at(row);
-    at + LENGTH_BYTES + (u32_at(row, at) as usize)
+    #[tactic(auto, unfolding(crate::specs::Record::answer_of))]
+    pub fn answer(self) -> &'a [u8]
+        ensures { result.now ≡ answer_of self.entry.bytes.now }
+    {
+        let at = self.answer_at();
+        let length = u32_at(self.bytes, at) as usize;
+        window(self.bytes, at + LENGTH_BYTES, length)
+    }
+
+    // How many bytes it has.
+    #[tactic(auto, unfolding(crate::specs::Record::size_of))]
+    pub fn size(self) -> usize
+        ensures { result ≡ size_of self.entry.bytes.now }
+    {
+        let at = self.answer_at();
+        at + LENGTH_BYTES + (u32_at(self.bytes, at) as usize)
+    }
 }

@@ -1,46 +1,31 @@
 // What is compared: outcomes, and bytes.
-ghost use Rattle.std.specs.Prelude.{ℕ, ◌≡◌, ◌&&◌, eqb};
+ghost use Rattle.std.specs.Prelude.{ℕ, ◌≡◌, ◌&&◌, eqb, length, take, drop};
 ghost use Rattle.spec.specs.Lists.{all};
 ghost use Rattle.layout.specs.Returned.{returned_number, returned_length};
 ghost use Rattle.replay.specs.Same.{same};
 
-use layout::Answered;
+use spec::Refusal;
+use wire::slice::{tail, window};
+
+// What the lent buffer holds before the call.
+pub const PATTERN: u8 = 0xa5;
 
 // Whether the call gave this number and this length.
-pub fn same_outcome(answered: Answered, number: u8, length: usize) -> bool
+pub fn same_outcome(answered: Result<usize, Refusal>, number: u8, length: usize) -> bool
     ensures { result ≡ eqb (returned_number answered) number && eqb (returned_length answered) length }
 {
     match answered {
-        Answered::Written(n) => (0 == number) & (n == length),
-        Answered::Refused(k) => (k == number) & (0 == length),
+        Ok(n) => 0 == number && n == length,
+        Err(refusal) => u8::from(refusal) == number && 0 == length,
     }
 }
 
-pub fn same_bytes(a: &[u8], b: &[u8]) -> bool
-    ensures { result ≡ same a.now b.now }
+// Whether the buffer holds the answer, and past it what it held before the call. A refused job's answer has no bytes.
+pub fn holds(buffer: &[u8], answer: &[u8]) -> bool
+    ensures { result ≡ same (take (length answer.now) buffer.now) answer.now
+        && all (λ (x : ℕ). eqb x 0xa5) (drop (length answer.now) buffer.now) }
 {
-    if a.len() != b.len() {
-        return false;
-    }
-    let mut i: usize = 0;
-    while i < a.len() {
-        if a[i] != b[i] {
-            return false;
-        }
-        i += 1;
-    }
-    true
-}
-
-pub fn all_are(s: &[u8], b: u8) -> bool
-    ensures { result ≡ all (λ (x : ℕ). eqb x b) s.now }
-{
-    let mut i: usize = 0;
-    while i < s.len() {
-        if s[i] != b {
-            return false;
-        }
-        i += 1;
-    }
-    true
+    let n = answer.len();
+    let begins = window(buffer, 0, n) == answer;
+    begins && tail(buffer, n).iter().all(|byte| *byte == PATTERN)
 }

@@ -2,6 +2,4 @@
 pub mod Cases
 pub mod Insertion
 pub mod Ascending
-pub mod Merging
-pub mod LoopSteps
-pub mod Halves
+pub mod Permuted

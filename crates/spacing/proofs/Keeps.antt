@@ -1,17 +1,17 @@
--- What steps 3 to 5 leave as it was: the words of a row that steps 3 and 5 set anew, and of the clusters all that no step sets, so their byte
--- indexes. How many there are: `length-writing` and `length-letter` of laws, and `length-word`. Assumes nothing.
+-- What steps 3 to 5 leave as it was: of the clusters all that no step sets, so their byte indexes. How many there are: `length-writing` and
+-- `length-letter` of laws, and `length-word`. Assumes nothing.
 use Prim.Native.Nat.{ℕ, ◌-◌}
 use mathlib.Core.Path.{◌≡◌, refl, ap₂, ◌∙◌}
 use mathlib.Core.Bool.{Bool, true, false, not, cond}
 use mathlib.Core.List.{List, [], ◌∷◌, map}
 use lib.ListN.{length, length-map}
 use lib.Dec.{eqb}
-use lib.Ieee.{Float, neg}
+use lib.Ieee.{Float}
 use Rattle.spec.specs.Lists.{scan, any}
-use Rattle.spec.specs.Single.{◌+ᶠ◌, ◌/ᶠ◌, two, is_zero, is_positive}
+use Rattle.spec.specs.Single.{is_zero, is_positive}
 use Rattle.spec.specs.declared.Span.{Span}
 use Rattle.spec.specs.declared.Cluster.{Cluster}
-use Rattle.spec.specs.Job.{span_at, top_to_bottom}
+use Rattle.spec.specs.Job.{top_to_bottom}
 use Rattle.spec.specs.Script.{script_supports_letter_spacing, is_word_separator_at}
 use Rattle.spec.specs.Arithmetic.{Arithmetic, indexes}
 use Rattle.spec.specs.ClusterParts.{with_height, collapsed}
@@ -19,33 +19,7 @@ use Rattle.spec.specs.Cluster.{rounded}
 use Rattle.spec.specs.WritingMode.{vertical_metrics, apply_writing_mode}
 use Rattle.spec.specs.LetterSpacing.{collapse_if_empty, letter_spaced, next_letter_spaced, apply_letter_spacing}
 use Rattle.spec.specs.WordSpacing.{word_spaced, apply_word_spacing}
-use Rattle.spec_laws.proofs.All.{cond-keeps}
 use Rattle.spec_laws.proofs.AsMany.{length-cond}
-use Rattle.cluster_table.specs.Clusters.{cluster_of, floats_of}
-use Rattle.cluster_table.proofs.Rows.{line-back, height-back}
-
--- ---- the words of a row
-
-module _ (c : Cluster) (f : List Float) (w : List ℕ) (e : c ≡ cluster_of f w) where
-  -- the floats of d stand beside the words w
-  abbrev Beside : Cluster → Type 0
-  Beside d = cluster_of (floats_of d) w ≡ d
-
-  pub turned-back : Beside (vertical_metrics c)
-  unfolding vertical_metrics
-  turned-back =
-      let nudge = (c.ascent +ᶠ c.descent) /ᶠ two in
-      cond-keeps Beside c.upright (height-back (c.width /ᶠ two) (neg c.width /ᶠ two) nudge f w e) (height-back c.ascent c.descent nudge f w e)
-
-  spaced-back : (text : List ℕ) (spans : List Span) → Beside (word_spaced rounded text spans c)
-  unfolding word_spaced
-  spaced-back text spans =
-      cond-keeps Beside (is_word_separator_at text c.index)
-      (line-back c.width (c.advance +ᶠ (span_at spans c.span).word) c.spacing c.x c.y f w e) (line-back c.width c.advance c.spacing c.x c.y f w e)
-
-pub word_back : (text : List ℕ) (spans : List Span) (c : Cluster) (f : List Float) (w : List ℕ) → c ≡ cluster_of f w
-    → cluster_of (floats_of (word_spaced rounded text spans c)) w ≡ word_spaced rounded text spans c
-word_back text spans c f w e = spaced-back c f w e text spans
 
 -- ---- the clusters
 

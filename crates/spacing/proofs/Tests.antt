@@ -1,18 +1,16 @@
--- What the code tests, as the definitions ask it. Assumes nothing.
-use mathlib.Core.Path.{◌≡◌, refl, sym, ◌∙◌}
-use mathlib.Core.Bool.{Bool, true, false, cond}
+-- The library's test of any element, as the definitions ask it. Assumes nothing.
+use mathlib.Core.Path.{◌≡◌, refl}
+use mathlib.Core.Bool.{Bool}
 use mathlib.Core.List.{List, [], ◌∷◌, map}
+use Rattle.std.specs.List.{list_any}
 use Rattle.spec.specs.Lists.{any}
 
-pub any-map : {A B : Type 0} (p : B → Bool) (f : A → B) (xs : List A) → any p (map f xs) ≡ any (λ (x : A). p (f x)) xs
-unfolding any
-any-map p f [] = refl
-any-map p f (x ∷ xs) = rw (any-map p f xs)
+module _ {A B : Type 0} (p : B → Bool) (f : A → B) where
+  pub any-map : (xs : List A) → any p (map f xs) ≡ list_any (λ (x : A). p (f x)) xs
+  unfolding any
+  any-map [] = refl
+  any-map (x ∷ xs) = rw (any-map xs)
 
--- a choice by a test t, of which the code has the result r
-module _ {A : Type 0} (t : Bool) {r : Bool} (x y : A) where
-  pub cond-true : r ≡ t → r ≡ true → cond t x y ≡ x
-  cond-true e h = rw (sym e ∙ h)
-
-  pub cond-false : r ≡ t → r ≡ false → cond t x y ≡ y
-  cond-false e h = rw (sym e ∙ h)
+  -- of what f gives of the elements
+  pub any-found : (xs : List A) {r : Bool} → r ≡ list_any (λ (x : A). p (f x)) xs → r ≡ any p (map f xs)
+  any-found xs e = rw (any-map xs) e

@@ -15,6 +15,7 @@ fn low(b: u8) -> u32
 }
 
 // The character that starts at byte `i`, as its code point.
+#[tactic(auto, unfolding(spec::specs::Utf8::code_point))]
 pub fn code_point(text: &[u8], i: usize) -> u32
     ensures { result ≡ code_point (drop i text.now) }
 {
@@ -36,19 +37,26 @@ pub fn code_point(text: &[u8], i: usize) -> u32
 }
 
 // The separators of CSS Text 3.
+const WORD_SEPARATORS: [u32; 7] = [
+    0x0020, // space
+    0x00a0, // no-break space
+    0x1361, // Ethiopic wordspace
+    0x10100, // Aegean word separator line
+    0x10101, // Aegean word separator dot
+    0x1039f, // Ugaritic word divider
+    0x1091f, // Phoenician word separator
+];
+
+// Whether `c` is one of them.
+#[tactic(auto, unfolding(spec::specs::Script::word_separators, spec::specs::Lists::any))]
 pub fn is_word_separator_characters(c: u32) -> bool
     ensures { result ≡ elem c word_separators }
 {
-    (0x0020 == c)
-        | (0x00a0 == c)
-        | (0x1361 == c)
-        | (0x10100 == c)
-        | (0x10101 == c)
-        | (0x1039f == c)
-        | (0x1091f == c)
+    WORD_SEPARATORS.contains(&c)
 }
 
 // The character that starts at byte `i` separates words.
+#[tactic(auto, unfolding(spec::specs::Script::is_word_separator_at))]
 pub fn is_word_separator_at(text: &[u8], i: usize) -> bool
     ensures { result ≡ is_word_separator_at text.now i }
 {

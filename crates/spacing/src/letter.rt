@@ -1,39 +1,37 @@
 // Step 4: letter spacing.
-ghost use Rattle.std.specs.Prelude.{◌≡◌, cond, List, ◌<◌, ◌≤◌, length, set};
+ghost use Rattle.std.specs.Prelude.{◌≡◌, List};
 ghost use Rattle.spec.specs.declared.Span.{Span};
 ghost use Rattle.spec.specs.Job.{span_at};
 ghost use Rattle.spec.specs.Cluster.{rounded};
 ghost use Rattle.spec.specs.LetterSpacing.{collapse_if_empty, letter_spaced, next_letter_spaced, apply_letter_spacing};
 ghost use Rattle.job_rows.specs.Rows.{spans_in};
-ghost use Rattle.cluster_table.specs.Clusters.{floats_of, words_of, clusters_of};
 
-use crate::spans::{Spacing, any_spacing, spaced, spacing_in};
-use cluster_table::{cluster_at, put_cluster, put_floats};
+use crate::spans::{Spacing, any_spacing, spacing_in};
 use spec::{Cluster, script_supports_letter_spacing};
 
 // A cluster whose advance is not above 0 loses its width, its advance and its glyphs.
-pub fn collapse_if_empty(c: Cluster) -> Cluster
-    ensures { result ≡ collapse_if_empty rounded c }
+#[tactic(auto, unfolding(spec::specs::LetterSpacing::collapse_if_empty))]
+pub fn collapse_if_empty(c: &mut Cluster)
+    ensures { c.new ≡ collapse_if_empty rounded c.old }
 {
     if 0.0 < c.advance {
-        return c;
+        return;
     }
-    let mut d = c;
-    d.width = 0.0;
-    d.advance = 0.0;
-    d.count = 0;
-    d.collapsed = true;
-    d
+    c.width = 0.0;
+    c.advance = 0.0;
+    c.count = 0;
+    c.collapsed = true;
 }
 
-// The cluster with its spacing, which the last one does not get.
-pub fn letter_spaced(letter: f32, last: bool, c: Cluster) -> Cluster
-    ensures { result ≡ letter_spaced rounded letter last c }
+// The cluster gets its spacing, but not the last one.
+#[tactic(auto, unfolding(spec::specs::LetterSpacing::letter_spaced))]
+pub fn letter_spaced(letter: f32, last: bool, c: &mut Cluster)
+    ensures { c.new ≡ letter_spaced rounded letter last c.old }
 {
-    if last {
-        return collapse_if_empty(c);
+    if !last {
+        c.advance += letter;
     }
-    collapse_if_empty(spaced(c, letter))
+    collapse_if_empty(c);
 }
 
 // The letter spacing of the span of place `span`. Neighbours nearly always have one span, so that it is kept.
@@ -65,49 +63,26 @@ fn next_letter(s: &[u8], spans: &[usize], k: u32, last: Kept) -> Kept
 }
 
 // The next cluster, of which `left` are still to come, itself counted. Its span's letter spacing is given.
-fn next_letter_spaced(letter: f32, left: usize, c: Cluster) -> Cluster
-    ensures { (spans : List Span) → letter ≡ (span_at spans c.span).letter → result ≡ next_letter_spaced rounded spans left c }
+#[tactic(auto, unfolding(spec::specs::LetterSpacing::next_letter_spaced))]
+fn next_letter_spaced(letter: f32, left: usize, c: &mut Cluster)
+    ensures { (spans : List Span) → letter ≡ (span_at spans c.old.span).letter → c.new ≡ next_letter_spaced rounded spans left c.old }
 {
     if script_supports_letter_spacing(c.tag) {
-        return letter_spaced(letter, left == 1, c);
+        letter_spaced(letter, left == 1, c);
     }
-    c
 }
 
-// Stores it. Its words are unchanged unless it has collapsed.
-fn put_spaced(floats: &mut [[f32; 10]], words: &mut [[u32; 6]], i: usize, c: Cluster)
-    requires { (i < length floats.old) × (i < length words.old) }
-    ensures { (floats.new ≡ set floats.old i (floats_of c))
-        × (words.new ≡ cond c.collapsed (set words.old i (words_of c)) words.old) }
-{
-    if c.collapsed {
-        put_cluster(floats, words, i, c);
-        return;
-    }
-    put_floats(floats, i, c);
-}
-
-pub fn apply_letter_spacing(
-    s: &[u8],
-    spans: &[usize],
-    floats: &mut [[f32; 10]],
-    words: &mut [[u32; 6]],
-    n: usize,
-)
-    requires { (n ≤ length floats.old) × (n ≤ length words.old) }
-    ensures { clusters_of floats.new words.new n
-        ≡ apply_letter_spacing rounded (spans_in s.now spans.now) (clusters_of floats.old words.old n) }
+#[tactic(auto, unfolding(spec::specs::LetterSpacing::apply_letter_spacing))]
+pub fn apply_letter_spacing(s: &[u8], spans: &[usize], clusters: &mut [Cluster])
+    ensures { clusters.new ≡ apply_letter_spacing rounded (spans_in s.now spans.now) clusters.old }
 {
     if !any_spacing(s, spans, Spacing::Letter) {
         return;
     }
     let mut kept = letter_in(s, spans, 0);
-    let mut i: usize = 0;
-    while i < n {
-        let c = cluster_at(floats, words, i);
+    let n = clusters.len();
+    for (i, c) in clusters.iter_mut().enumerate() {
         kept = next_letter(s, spans, c.span, kept);
-        let d = next_letter_spaced(kept.letter, n - i, c);
-        put_spaced(floats, words, i, d);
-        i += 1;
+        next_letter_spaced(kept.letter, n - i, c);
     }
 }

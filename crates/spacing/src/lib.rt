@@ -1,4 +1,4 @@
-// Steps 3, 4 and 5: writing mode, letter spacing and word spacing, each a function of one cluster and a loop over the stored ones.
+// Steps 3, 4 and 5: writing mode, letter spacing and word spacing, each a function of one cluster and a loop over all.
 #![tactic(auto)]
 
 pub mod character;

@@ -1,17 +1,15 @@
-// Letter and word spacing: those of a chunk's spans, of which only the float that is asked for is read, and a cluster with one added.
+// Letter and word spacing: those of a chunk's spans, of which only the float that is asked for is read.
 ghost use Rattle.std.specs.Prelude.{◌≡◌, not, drop};
 ghost use Rattle.spec.specs.Lists.{any};
-ghost use Rattle.spec.specs.Single.{is_zero, ◌+ᶠ◌};
+ghost use Rattle.spec.specs.Single.{is_zero};
 ghost use Rattle.spec.specs.declared.Span.{Span};
 ghost use Rattle.spec.specs.Job.{span_at};
 ghost use Rattle.spec.specs.Decode.{span_of};
-ghost use Rattle.spec.specs.Cluster.{rounded};
 ghost use Rattle.job_rows.specs.Rows.{spans_in};
 ghost use Rattle.spacing.specs.Spans.{spacing_of};
 
 use job_rows::rows::span_float;
 use job_rows::sizes::{SPAN_LETTER_AT, SPAN_WORD_AT};
-use spec::Cluster;
 
 #[derive(Clone, Copy)]
 pub enum Spacing {
@@ -20,6 +18,7 @@ pub enum Spacing {
 }
 
 // The spacing of the span with which `row` begins.
+#[tactic(auto, unfolding(spec::specs::Decode::span_of))]
 fn spacing_of(row: &[u8], spacing: Spacing) -> f32
     ensures { result ≡ spacing_of spacing (span_of row.now) }
 {
@@ -36,36 +35,20 @@ pub fn spacing_at(s: &[u8], at: usize, spacing: Spacing) -> f32
     spacing_of(wire::slice::tail(s, at), spacing)
 }
 
-// The spacing of the span of place `k` in the chunk.
+// The spacing of the span of place `k` in the chunk, as `size_in` of `job_rows` reads a size: each has its own definition.
+#[tactic(auto, unfolding(job_rows::specs::Rows::spans_in))]
 pub fn spacing_in(s: &[u8], spans: &[usize], k: u32, spacing: Spacing) -> f32
     ensures { result ≡ spacing_of spacing (span_at (spans_in s.now spans.now) k) }
 {
-    let i = k as usize;
-    if i < spans.len() {
-        return spacing_at(s, spans[i], spacing);
+    match spans.get(k as usize) {
+        Some(at) => spacing_at(s, *at, spacing),
+        None => 0.0,
     }
-    0.0
 }
 
 // Any span's spacing is not zero.
 pub fn any_spacing(s: &[u8], spans: &[usize], spacing: Spacing) -> bool
     ensures { result ≡ any (λ (p : Span). not (is_zero (spacing_of spacing p))) (spans_in s.now spans.now) }
 {
-    let mut i: usize = 0;
-    while i < spans.len() {
-        if spacing_at(s, spans[i], spacing) != 0.0 {
-            return true;
-        }
-        i += 1;
-    }
-    false
-}
-
-// The cluster with `by` added to its advance.
-pub fn spaced(c: Cluster, by: f32) -> Cluster
-    ensures { result ≡ rounded.with_advance (c.advance +ᶠ by) c }
-{
-    let mut d = c;
-    d.advance = c.advance + by;
-    d
+    spans.iter().any(|at| spacing_at(s, *at, spacing) != 0.0)
 }

@@ -1,14 +1,14 @@
 -- One turn and the end of each loop that the code has over a list: a fold, a search, elements set anew in place. Each for any element type.
 -- Assumes nothing.
-use Prim.Native.Nat.{ℕ, suc, ◌+◌, ◌<◌, ◌≤◌}
+use Prim.Native.Nat.{ℕ, zero, suc, ◌+◌, ◌<◌, ◌≤◌}
 use mathlib.Core.Path.{◌≡◌, refl, sym, ap, ◌∙◌}
 use mathlib.Core.Bool.{Bool, true, false}
 use mathlib.Core.List.{List, [], ◌∷◌, ◌++◌, map, foldl, append-nil}
-use native.Mathlib.Nat.{le_refl}
+use native.Mathlib.Nat.{le_refl, le_of_suc-le-suc, not-suc-le-zero}
 use native.Mathlib.Numerals.{add-one}
 use lib.ListN.{length, get_or, take, drop, set, drop_of_length-le}
 use lib.Seq.{drop-cons, drop-set-lt, take-suc-set, take_all, append_snoc}
-use Rattle.spec.specs.Lists.{any, scan}
+use Rattle.spec.specs.Lists.{any, scan, modify, get_map_or}
 
 -- ---- a fold
 module _ {A B : Type 0} (f : B → A → B) where
@@ -54,3 +54,16 @@ pub scan-map : {A S : Type 0} (s : S) (f : A → A) (xs : List A) → scan (λ (
 unfolding scan
 scan-map s f [] = refl
 scan-map {A} s f (x ∷ xs) = ap {B = List A} (λ r. f x ∷ r) (scan-map s f xs)
+
+-- ---- one element by its place: set anew by f, and what g gives of it
+pub modify-set : {A : Type 0} (f : A → A) (xs : List A) (i : ℕ) (x : A) → i < length xs → get_or xs i x ≡ x → modify f xs i ≡ set xs i (f x)
+unfolding modify
+modify-set f [] i x h e = refl
+modify-set f (y ∷ xs) zero x h e = rw e
+modify-set f (y ∷ xs) (suc i) x h e = ap {B = List _} (λ r. y ∷ r) (modify-set f xs i x (le_of_suc-le-suc h) e)
+
+pub at_or-get : {A B : Type 0} (b : B) (g : A → B) (xs : List A) (i : ℕ) (x : A) → i < length xs → get_or xs i x ≡ x → get_map_or b g xs i ≡ g x
+unfolding get_map_or
+at_or-get b g [] i x h e = absurd (not-suc-le-zero h)
+at_or-get b g (y ∷ xs) zero x h e = ap g e
+at_or-get b g (y ∷ xs) (suc i) x h e = at_or-get b g xs i x (le_of_suc-le-suc h) e

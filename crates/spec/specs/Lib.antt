@@ -1,4 +1,5 @@
 pub mod Outcome
+pub mod Refusal
 pub mod Lists
 pub mod Bytes
 pub mod Single

@@ -4,9 +4,13 @@
 ghost use Rattle.std.specs.Prelude.{◌≡◌};
 ghost use Rattle.spec.specs.Job.{limits};
 ghost use Rattle.spec.specs.Merge.{span_contains};
+ghost use Rattle.spec.specs.Refusal.{refusal_number};
 ghost use Rattle.spec.specs.Script.{script_supports_letter_spacing};
 
 // ---- the job
+
+// A row may hold any byte, also one that is no kind, before the checks have read it, and the definitions of specs/ speak of document 01's numbers:
+// mode, adjust, dominant, alignment, orientation, the flags and a font byte of 255 stay the numbers that they are in the record.
 
 // A job as the code holds it: the writing mode, how many font rows it has, and where its lists and its chunks begin in the record.
 #[derive(Clone, Copy)]
@@ -133,10 +137,48 @@ pub fn span_contains(span: Span, index: u32) -> bool
 }
 
 // How far a character of UTF-8 has been read: it expects so many more bytes, of which the next lies between two bounds.
+// No Option of three numbers, since the definitions speak of both cases by these names.
 #[derive(Clone, Copy)]
 pub enum Utf8State {
     Malformed,
     Expecting(u8, u8, u8),
+}
+
+// ---- a refusal
+
+// Why a job is refused. The numbers of document 01 are 1 to 10, in this order.
+#[derive(Clone, Copy, PartialEq, Eq, Debug)]
+pub enum Refusal {
+    BadLength,
+    BadVersion,
+    BadCount,
+    BadField,
+    BadText,
+    BadSpan,
+    MergePastEnd,
+    TooManyGlyphs,
+    NoWidth,
+    NoRoom,
+}
+
+// Its number.
+impl From<Refusal> for u8 {
+    ghost from_gives = { λ refusal number. number ≡ refusal_number refusal };
+
+    fn from(refusal: Refusal) -> u8 {
+        match refusal {
+            Refusal::BadLength => 1,
+            Refusal::BadVersion => 2,
+            Refusal::BadCount => 3,
+            Refusal::BadField => 4,
+            Refusal::BadText => 5,
+            Refusal::BadSpan => 6,
+            Refusal::MergePastEnd => 7,
+            Refusal::TooManyGlyphs => 8,
+            Refusal::NoWidth => 9,
+            Refusal::NoRoom => 10,
+        }
+    }
 }
 
 // ---- baselines, each in the order of source document 001
@@ -210,6 +252,32 @@ pub struct Cluster {
     pub angle: f32,
 }
 
+impl Cluster {
+    // A row of a list that no cluster has been put into. A constant, and no `Default`, since arrays are filled with it.
+    pub const BLANK: Cluster = Cluster {
+        index: 0,
+        tag: 0,
+        upright: false,
+        span: 0,
+        from: 0,
+        count: 0,
+        relative: false,
+        scaled: false,
+        rotated: false,
+        collapsed: false,
+        width: 0.0,
+        advance: 0.0,
+        spacing: 0.0,
+        ascent: 0.0,
+        descent: 0.0,
+        nudge: 0.0,
+        scale: 0.0,
+        x: 0.0,
+        y: 0.0,
+        angle: 0.0,
+    };
+}
+
 // A decoration run (the Rust's DecorationSpan): the place of its first cluster in the chunk, and its width.
 #[derive(Clone, Copy)]
 pub struct Run {
@@ -254,14 +322,5 @@ pub const UNSPACED: [u32; UNSPACED_TAGS] = [
 pub fn script_supports_letter_spacing(tag: u32) -> bool
     ensures { result ≡ script_supports_letter_spacing tag }
 {
-    // A constant is copied where it stands: once, not in each turn.
-    let tags = UNSPACED;
-    let mut i: usize = 0;
-    while i < UNSPACED_TAGS {
-        if tags[i] == tag {
-            return false;
-        }
-        i += 1;
-    }
-    true
+    !UNSPACED.contains(&tag)
 }

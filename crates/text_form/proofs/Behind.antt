@@ -20,10 +20,10 @@ module _ (size : List ℕ → ℕ) where
   none bs = refl
 
   module _ (n i : ℕ) where
-    -- the walk over s stands at p, where `row` is; the record there takes k bytes, and q is the place behind it
-    pub behind-on : (s row : List ℕ) (p k q : ℕ) → row ≡ drop p s → k ≡ size row → q ≡ min (p + k) (length s) → i < n
+    -- the walk over s stands at p, where `row` is; the record there ends at k, and q is the place behind it
+    pub behind-on : (s row : List ℕ) (p k q : ℕ) → row ≡ drop p s → drop k row ≡ drop (size row) row → q ≡ min (p + k) (length s) → i < n
         → behind size (n - (i + 1)) (drop q s) ≡ behind size (n - i) (drop p s)
-    behind-on s row p k q row_is k-is q-is h = rw (after-drops p k s q-is, k-is, row_is, one_more) (turn (n - (i + 1)) (drop p s))
+    behind-on s row p k q row_is ends q-is h = rw (after-drops p k s q-is, rw row_is at ends, one_more) (turn (n - (i + 1)) (drop p s))
       where
         one_more : n - i ≡ suc (n - (i + 1))
         one_more = omega (arith, h)

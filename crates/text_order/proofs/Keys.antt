@@ -1,25 +1,27 @@
 -- The keys of clusters, written one after the other. Assumes nothing.
 use Prim.Native.Nat.{ℕ, zero, suc, ◌+◌, ◌*◌, ◌≤◌, ◌<◌}
 use mathlib.Core.Path.{◌≡◌, refl, sym, ap, ◌∙◌}
-use mathlib.Core.Bool.{true}
+use mathlib.Core.Bool.{true, false}
 use mathlib.Core.List.{List, [], ◌∷◌, ◌++◌, map}
 use native.Mathlib.Numerals.{add-one}
 use native.Mathlib.Nat.{le_of_suc-le-suc, not-suc-le-zero}
-use native.Mathlib.Omega.{arith}
 use lib.Dec.{ltb}
-use lib.ListN.{length, get_or, set, take, length-take}
-use lib.Seq.{take-suc, take-suc-set, take_all, take_at, get_or-take, length-take-le}
+use lib.Ieee.{nan}
+use lib.ListN.{length, get_or, set, take}
+use lib.Seq.{take-suc, take-suc-set, take_all, take_at}
 use borrow.Author.Tests.{ltb-true}
 use Rattle.spec.specs.Lists.{all}
 use Rattle.spec_laws.proofs.All.{all-at}
-use Rattle.cluster_table.specs.Clusters.{indexes_in}
+use Rattle.spec.specs.declared.Cluster.{Cluster}
+use Rattle.spec.specs.Arithmetic.{indexes}
+use Rattle.spec.specs.Cluster.{rounded}
 use Rattle.spec.specs.Position.{logical_order}
 use Rattle.sort.specs.Sorted.{sorted}
 use Rattle.text_order.specs.Keys.{key_of, keys_of}
 use Rattle.sort.proofs.Insertion.{sorted-length}
 use Rattle.text_order.proofs.TextKeys.{keys-at, keys_length, order-keys}
 
--- ---- the byte indexes of stored clusters
+-- ---- the byte indexes of clusters
 
 pub length-mapped : {A B : Type 0} (f : A → B) (l : List A) → length (map f l) ≡ length l
 length-mapped f [] = refl
@@ -30,22 +32,43 @@ get_d-mapped f [] i a b h = absurd (not-suc-le-zero h)
 get_d-mapped f (x ∷ l) zero a b h = refl
 get_d-mapped f (x ∷ l) (suc i) a b h = get_d-mapped f l i a b (le_of_suc-le-suc h)
 
-module _ (words : List (List ℕ)) (n : ℕ) (few : n ≤ length words) where
-  pub indexes-length : length (indexes_in words n) ≡ n
-  unfolding indexes_in
-  indexes-length = length-mapped _ (take n words) ∙ length-take-le n words few
+-- what a read past the end would give
+abbrev pub blank : Cluster
+blank =
+    record {
+      index = 0;
+      tag = 0;
+      upright = false;
+      span = 0;
+      from = 0;
+      count = 0;
+      relative = false;
+      scaled = false;
+      rotated = false;
+      collapsed = false;
+      width = nan;
+      advance = nan;
+      spacing = nan;
+      ascent = nan;
+      descent = nan;
+      nudge = nan;
+      scale = nan;
+      x = nan;
+      y = nan;
+      angle = nan;
+    }
 
-  pub indexes-at : (i : ℕ) → i < n → get_or (indexes_in words n) i 0 ≡ get_or (get_or words i []) 0 0
-  unfolding indexes_in
-  indexes-at i h =
-      let l : i < length (take n words) = simp length-take (omega arith) in
-      get_d-mapped _ (take n words) i [] 0 l ∙ ap (λ (w : List ℕ). get_or w 0 0) (get_or-take n words i [] h)
+module _ (cs : List Cluster) where
+  pub indexes-length : length (indexes rounded cs) ≡ length cs
+  indexes-length = length-mapped (λ (c : Cluster). c.index) cs
 
-pub index-small : (words : List (List ℕ)) (n : ℕ) → n ≤ length words → all (λ (i : ℕ). ltb i 65536) (indexes_in words n) ≡ true
-    → (i : ℕ) → i < n → get_or (get_or words i []) 0 0 < 65536
-index-small words n few e i h =
-    let l : i < length (indexes_in words n) = rw (indexes-length words n few) h in
-    ltb-true _ _ (rw (indexes-at words n few i h) at (all-at (λ (j : ℕ). ltb j 65536) (indexes_in words n) i 0 e l))
+  pub indexes-at : (i : ℕ) (c : Cluster) → i < length cs → get_or (indexes rounded cs) i 0 ≡ (get_or cs i c).index
+  indexes-at i c h = get_d-mapped (λ (c : Cluster). c.index) cs i c 0 h
+
+  pub index-small : all (λ (i : ℕ). ltb i 65536) (indexes rounded cs) ≡ true → (i : ℕ) (c : Cluster) → i < length cs → (get_or cs i c).index < 65536
+  index-small e i c h =
+      let l : i < length (indexes rounded cs) = rw indexes-length h in
+      ltb-true _ _ (rw (indexes-at i c h) at (all-at (λ (j : ℕ). ltb j 65536) (indexes rounded cs) i 0 e l))
 
 -- ---- the next key
 module _ (is : List ℕ) where

@@ -1,25 +1,19 @@
 -- Characters counted along the text order. Assumes nothing.
 use Prim.Native.Nat.{ℕ, ◌+◌, ◌≤◌, ◌<◌}
 use mathlib.Core.Path.{◌≡◌, refl, sym, ap, ◌∙◌}
-use mathlib.Core.Bool.{Bool, true, false, cond}
+use mathlib.Core.Bool.{Bool, true, false, cond, not}
 use mathlib.Core.List.{List, [], ◌∷◌, ◌++◌}
-use native.Mathlib.Numerals.{add-one}
 use native.Mathlib.Omega.{arith}
-use lib.ListN.{length, get_or, take, drop, length-take, drop_of_length-le, take-append-drop}
-use lib.Seq.{drop-cons, take-take}
+use Rattle.std.specs.List.{count_by}
+use Rattle.std.proofs.lemmas.List.Sums.{sum_by-cons}
+use lib.ListN.{length, get_or, take, drop, length-take, take-append-drop}
+use lib.Seq.{take-take}
 use Rattle.spec.specs.Utf8.{continues, characters, code_point_at}
 use Rattle.spec.specs.Position.{character_number}
+use Rattle.spec.specs.declared.Cluster.{Cluster}
 use Rattle.text_order.specs.Ordered.{Ordered}
 use Rattle.text_order.proofs.Keys.{indexes-at}
 use Rattle.text_order.proofs.Order.{place_in, index_in, place_inside}
-
--- ---- a byte that continues a character starts none, and any other starts one
-
-pub starts_none : (b : ℕ) → continues b ≡ true → ◌≡◌ {A = ℕ} 0 (cond (continues b) 0 1)
-starts_none b e = rw e
-
-pub starts-one : (b : ℕ) → continues b ≡ false → ◌≡◌ {A = ℕ} 1 (cond (continues b) 0 1)
-starts-one b e = rw e
 
 -- ---- characters of a part
 
@@ -36,6 +30,16 @@ pub characters-few : (a : List ℕ) → characters a ≤ length a
 unfolding characters
 characters-few [] = omega arith
 characters-few (x ∷ a) = omega (arith, characters-few a, bit-small (continues x))
+
+one-more : (b : Bool) {n m : ℕ} → n ≡ m → cond (not b) 1 0 + n ≡ cond b 0 1 + m
+one-more true e = ap (λ k. 0 + k) e
+one-more false e = ap (λ k. 1 + k) e
+
+-- the characters are the bytes that continue none
+pub characters-starts : (a : List ℕ) → count_by (λ (b : ℕ). not (continues b)) a ≡ characters a
+unfolding characters
+characters-starts [] = refl
+characters-starts (x ∷ a) = sum_by-cons _ x a ∙ one-more (continues x) (characters-starts a)
 
 pub none_before : (text : List ℕ) → code_point_at text 0 ≡ 0
 unfolding code_point_at characters
@@ -58,25 +62,15 @@ module _ (text : List ℕ) where
   next-number offset at end number count e h f = omega (arith, characters-to at end h)
 
 -- ---- the number of the next cluster in text order: the walk stands at byte `at` with its number
-module _ (text : List ℕ) {order : List ℕ} {words : List (List ℕ)} {n : ℕ} (o : Ordered order words n) (offset at k : ℕ) where
+module _ (text : List ℕ) {order : List ℕ} {cs : List Cluster} (o : Ordered order cs) (offset at k : ℕ) where
   pub record Next (end next : ℕ) : Type 0 where
-    pub there : end ≡ index_in order words n k
+    pub there : end ≡ index_in order cs k
     pub number : next ≡ character_number text offset end
     pub small : next ≤ offset + length text
 
-  pub walk-next : k < n → (k < n → at ≤ index_in order words n k) → {end number count : ℕ} → end ≡ get_or (get_or words (place_in order k) []) 0 0
+  pub walk-next : k < length cs → (k < length cs → at ≤ index_in order cs k) → {end number count : ℕ} (c : Cluster) → end ≡ (get_or cs (place_in order k) c).index
       → number ≡ character_number text offset at → count ≡ characters (drop at (take end text)) → Next end (number + count)
-  walk-next h up {end} {number} {count} e en ec =
-      let there : end ≡ index_in order words n k = e ∙ sym (indexes-at words n o.rows (place_in order k) (place_inside o k h)) in
+  walk-next h up {end} {number} {count} c e en ec =
+      let there : end ≡ index_in order cs k = e ∙ sym (indexes-at cs (place_in order k) c (place_inside o k h)) in
       let next = next-number text offset at end number count en (omega (arith, up h, there)) ec in
       record { there = there; number = next; small = omega (arith, next, front-few text end) }
-
--- ---- one turn of the count, and its end
-module _ (text : List ℕ) (i : ℕ) where
-  pub count_turn : i < length text → characters (drop i text) ≡ cond (continues (get_or text i 0)) 0 1 + characters (drop (i + 1) text)
-  unfolding characters
-  count_turn h = rw (add-one i, drop-cons text i 0)
-
-  pub count-done : length text ≤ i → characters (drop i text) ≡ 0
-  unfolding characters
-  count-done h = rw (drop_of_length-le text h)

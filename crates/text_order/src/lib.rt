@@ -1,59 +1,57 @@
 // The text order of the clusters, and the number of each cluster's character.
 #![tactic(auto)]
 
-ghost use Rattle.std.specs.Prelude.{◌≡◌, cond, map, ◌+◌, ◌≤◌, ◌<◌, length, take, drop};
+ghost use Rattle.std.specs.Prelude.{◌≡◌, not, map, ◌+◌, ◌%◌, ◌≤◌, ◌<◌, length, take, drop};
 ghost use Rattle.spec.specs.Utf8.{continues, characters};
 ghost use Rattle.spec.specs.Position.{logical_order, character_number};
-ghost use Rattle.cluster_table.specs.Clusters.{indexes_in};
+ghost use Rattle.spec.specs.Arithmetic.{indexes};
+ghost use Rattle.spec.specs.Cluster.{rounded};
 ghost use Rattle.text_order.specs.Keys.{key_of, keys_of};
 ghost use Rattle.text_order.specs.Ordered.{Sortable, Ordered};
 
 use sort::sort;
-use wire::slice::window;
+use spec::Cluster;
+use wire::slice::{tail, window};
 
-// Each cluster's byte index and place as one number.
-fn put_keys(words: &[[u32; 6]], n: usize, order: &mut [u32])
-    requires { Sortable order.old words.now n }
-    ensures { take n order.new ≡ keys_of (indexes_in words.now n) }
+// The place of the cluster that a key names.
+pub fn place_of(key: u32) -> usize
+    ensures { result ≡ key % 65_536 }
 {
-    let mut i: usize = 0;
-    while i < n {
-        order[i] = words[i][0] * 65_536 + i as u32;
-        i += 1;
+    (key % 65_536) as usize
+}
+
+// Each cluster's key: its byte index times 65,536, and its place.
+fn put_keys(clusters: &[Cluster], order: &mut [u32])
+    requires { Sortable order.old clusters.now }
+    ensures { take (length clusters.now) order.new ≡ keys_of (indexes rounded clusters.now) }
+{
+    for (i, c) in clusters.iter().enumerate() {
+        order[i] = c.index * 65_536 + i as u32;
     }
 }
 
-// The text order of `n` clusters: their keys, sorted. `spare` is overwritten.
-pub fn logical_order(words: &[[u32; 6]], n: usize, order: &mut [u32], spare: &mut [u32])
-    requires { (n ≤ length spare.old) × Sortable order.old words.now n }
-    ensures { take n order.new ≡ map key_of (logical_order (indexes_in words.now n)) }
+// The text order of the clusters: their keys, sorted.
+pub fn logical_order(clusters: &[Cluster], order: &mut [u32])
+    requires { Sortable order.old clusters.now }
+    ensures { take (length clusters.now) order.new ≡ map key_of (logical_order (indexes rounded clusters.now)) }
 {
-    put_keys(words, n, order);
-    sort(&mut order[..n], spare);
+    put_keys(clusters, order);
+    sort(&mut order[..clusters.len()]);
 }
 
-// How many characters start with a byte: one that continues a character starts none.
-fn starts(b: u8) -> usize
-    ensures { (result ≡ cond (continues b) 0 1) × (result ≤ 1) }
+// A character starts with the byte: it continues none. One line here and in `field_checks`, neither of which rests on the other.
+fn starts(b: u8) -> bool
+    ensures { result ≡ not (continues b) }
 {
-    if (0x80 <= b) & (b <= 0xbf) {
-        return 0;
-    }
-    1
+    !(0x80..=0xbf).contains(&b)
 }
 
 // How many characters start in the bytes from `at` to `end`.
 fn characters_between(text: &[u8], at: usize, end: usize) -> usize
     ensures { result ≡ characters (drop at (take end text.now)) }
 {
-    let front = window(text, 0, end);
-    let mut count: usize = 0;
-    let mut i = at;
-    while i < front.len() {
-        count += starts(front[i]);
-        i += 1;
-    }
-    count
+    let part = tail(window(text, 0, end), at);
+    part.iter().filter(|b| starts(**b)).count()
 }
 
 // How many characters a text has.
@@ -63,33 +61,24 @@ pub fn character_count(text: &[u8]) -> usize
     characters_between(text, 0, text.len())
 }
 
-fn wide(n: u32) -> usize
-    ensures { result ≡ n }
-{
-    n as usize
-}
-
 // The number of each cluster's character, in one pass over the text; `offset` characters come before it.
 pub fn character_numbers(
     text: &[u8],
     offset: usize,
-    words: &[[u32; 6]],
-    n: usize,
+    clusters: &[Cluster],
     order: &[u32],
     numbers: &mut [u32],
 )
-    requires { (offset + length text.now < 4_294_967_296) × (n ≤ length numbers.old) × Ordered order.now words.now n }
-    ensures { take n numbers.new ≡ map (character_number text.now offset) (indexes_in words.now n) }
+    requires { (offset + length text.now < 4_294_967_296) × (length clusters.now ≤ length numbers.old) × Ordered order.now clusters.now }
+    ensures { take (length clusters.now) numbers.new ≡ map (character_number text.now offset) (indexes rounded clusters.now) }
 {
     let mut number = offset;
     let mut at: usize = 0;
-    let mut k: usize = 0;
-    while k < n {
-        let place = (order[k] % 65_536) as usize;
-        let end = wide(words[place][0]);
+    for key in &order[..clusters.len()] {
+        let place = place_of(*key);
+        let end = clusters[place].index as usize;
         number += characters_between(text, at, end);
         numbers[place] = number as u32;
         at = end;
-        k += 1;
     }
 }

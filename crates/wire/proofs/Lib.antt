@@ -1,6 +1,7 @@
+pub mod Signed
 pub mod Places
 pub mod Patterns
 pub mod Digits
 pub mod Padded
-pub mod Signed
 pub mod Splice
+mod HighFirst

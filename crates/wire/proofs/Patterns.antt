@@ -1,25 +1,26 @@
 -- The patterns of a NaN are those above an infinity's, the sign left out. Assumes nothing.
-use Prim.Native.Nat.{ℕ, ◌%◌, ◌≤◌, ◌<◌}
-use mathlib.Core.Path.{◌≡◌, refl, sym, ◌∙◌, subst}
-use mathlib.Core.Bool.{not}
-use lib.Dec.{T}
-use lib.Ieee.{Float, nan, inf, fin, binary32, nan_bits, is_nan, of_bits, div}
+use Prim.Native.Nat.{ℕ, ◌%◌, ◌<◌}
+use mathlib.Core.Path.{◌≡◌, refl, sym, ◌∙◌}
+use mathlib.Core.Bool.{true, false≢true}
+use lib.Ieee.{Float, nan, inf, fin, binary32, is_nan, of_bits, to_bits}
 use lib.Ieee.Bits.{nan_bits_above, nan_bits_is}
+use native.Mathlib.Omega.{arith}
 use borrow.Author.Tests.{lt-ltb}
-use mir.Facts.{no_ltb}
 
-pub no_nan : (v : ℕ) → v % 2147483648 ≤ 2139095040 → T (not (nan_bits binary32 v))
-no_nan v h = rw (nan_bits_above binary32 v) (no_ltb h)
-
-is-nan : (x : Float) → T (is_nan x) → x ≡ nan
+nan_is : (x : Float) → is_nan x ≡ true → x ≡ nan
 unfolding is_nan
-is-nan nan h = refl
-is-nan (inf s) h = elim h [ ]
-is-nan (fin s m k) h = elim h [ ]
+nan_is nan e = refl
+nan_is (inf s) e = absurd (false≢true e)
+nan_is (fin s m k) e = absurd (false≢true e)
 
-pub only_nan : (v : ℕ) → 2139095040 < v % 2147483648 → of_bits binary32 v ≡ nan
-only_nan v h = is-nan (of_bits binary32 v) (subst T (sym (lt-ltb 2139095040 (v % 2147483648) h) ∙ sym (nan_bits_above binary32 v) ∙ nan_bits_is binary32 v) tt)
+-- the pattern that is written
+pub nan_written : (x : Float) → is_nan x ≡ true → 0x7fc0_0000 ≡ to_bits binary32 x
+unfolding to_bits
+nan_written x e = rw (nan_is x e) refl
 
-pub zero_by_zero : div binary32 (of_bits binary32 0) (of_bits binary32 0) ≡ nan
-unfolding div of_bits
-zero_by_zero = refl
+only_nan : (v : ℕ) → 2139095040 < v % 2147483648 → of_bits binary32 v ≡ nan
+only_nan v h = nan_is _ (sym (nan_bits_is binary32 v) ∙ nan_bits_above binary32 v ∙ lt-ltb 2139095040 (v % 2147483648) h)
+
+-- and so it is read
+pub nan_read : (v : ℕ) → 2139095040 < v % 2147483648 → of_bits binary32 0x7fc0_0000 ≡ of_bits binary32 v
+nan_read v h = only_nan 0x7fc0_0000 (omega arith) ∙ sym (only_nan v h)

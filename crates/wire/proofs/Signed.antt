@@ -1,43 +1,27 @@
--- Two's complement, for every width: what the code computes is the signed number that the bytes hold. Assumes nothing.
-use Prim.Native.Nat.{ℕ, zero, suc, ◌+◌, ◌-◌, ◌*◌, ◌^◌, ◌≤◌, ◌<◌}
-use mathlib.Core.Path.{◌≡◌, refl, ◌∙◌, ap}
+-- Two's complement: the bits of a number in bytes, read as signed, are the signed number that the bytes hold. Assumes nothing.
+use Prim.Native.Nat.{ℕ, ◌-◌, ◌*◌, ◌^◌, ◌<◌}
+use mathlib.Core.Path.{◌≡◌, refl, ◌∙◌}
+use mathlib.Core.Bool.{Bool, true, false, cond}
 use mathlib.Core.List.{List}
-use native.Mathlib.Omega.{arith}
-use borrow.Author.Tests.{lt-ltb, le-ltb}
-use lib.IntN.{pos, negsuc, ◌-ℤ◌}
+use borrow.Author.Tests.{lt-ltb}
+use lib.Dec.{ltb}
+use lib.IntN.{ℤ, pos, sub_ℕ}
 use mir.Syntax.{Width}
-use mir.Val.{to_z, of_z, SFits, hbits}
-use mir.Facts.{to_z_pos, to_z-of_z}
+use mir.Val.{to_z, of_z, sel, SFits, bits, hbits}
+use mir.Facts.{to_z-of_z}
 use Rattle.spec.specs.Bytes.{be, signed}
-use Rattle.wire.specs.Signed.{as_signed}
 
-minus_one : (n : ℕ) → negsuc 0 -ℤ pos n ≡ negsuc n
-minus_one zero = refl
-minus_one (suc n) = ap negsuc (omega arith)
+sel-cond : (b : Bool) (x y : ℤ) → sel b x y ≡ cond b x y
+sel-cond true x y = refl
+sel-cond false x y = refl
 
-module _ (w : Width) (n : ℕ) (h : n < 2 ^ hbits w) where
-  -- minus one less a number that fits
-  less : negsuc 0 -ℤ to_z w n ≡ negsuc n
-  less = rw (to_z_pos w h) (minus_one n)
+-- the bits n of a number of k bytes
+two_complement : (w : Width) (k n : ℕ) → bits w ≡ 8 * k → hbits w ≡ 8 * k - 1 → n < 2 ^ bits w
+    → to_z w n ≡ cond (ltb n (2 ^ (8 * k - 1))) (pos n) (sub_ℕ n (2 ^ (8 * k)))
+two_complement w k n b h l = rw (← h, ← b, lt-ltb n (2 ^ bits w) l) (sel-cond (ltb n (2 ^ hbits w)) _ _)
 
-  pub less-fits : SFits w (negsuc 0 -ℤ to_z w n)
-  less-fits = rw less (record { sfits = h })
-
-  less-back : to_z w (of_z w (negsuc 0 -ℤ to_z w n)) ≡ negsuc n
-  less-back = to_z-of_z less-fits ∙ less
-
-module _ (w : Width) (k n : ℕ) where
-  pub signed_low : n < 2 ^ hbits w → n < 2 ^ (8 * k - 1) → to_z w n ≡ as_signed k n
-  unfolding as_signed
-  signed_low h i = rw (lt-ltb n (2 ^ (8 * k - 1)) i) (to_z_pos w h)
-
-  pub signed_high : (m : ℕ) → m < 2 ^ hbits w → 2 ^ (8 * k - 1) ≤ n → m + suc n ≡ 2 ^ (8 * k) → to_z w (of_z w (negsuc 0 -ℤ to_z w m)) ≡ as_signed k n
-  unfolding as_signed
-  signed_high m h i f =
-      let m-is : m ≡ 2 ^ (8 * k) - suc n = omega arith in
-      rw (le-ltb n (2 ^ (8 * k - 1)) i, lt-ltb n (2 ^ (8 * k)) (omega arith)) (less-back w m h ∙ ap negsuc m-is)
-
--- the k bytes hold n
-pub signed_of : (k : ℕ) (bs : List ℕ) (n : ℕ) → n ≡ be k bs → as_signed k n ≡ signed k bs
-unfolding signed as_signed
-signed_of k bs n e = rw e
+-- z has the bits of the number that the k bytes hold
+pub signed_bits : (w : Width) (k : ℕ) (bs : List ℕ) (z : ℤ) → bits w ≡ 8 * k → hbits w ≡ 8 * k - 1 → be k bs < 2 ^ bits w
+    → SFits w z → z ≡ to_z w (be k bs) → to_z w (of_z w z) ≡ signed k bs
+unfolding signed
+signed_bits w k bs z b h l f q = to_z-of_z f ∙ q ∙ two_complement w k (be k bs) b h l

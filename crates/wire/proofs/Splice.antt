@@ -59,3 +59,8 @@ module _ {A : Type 0} where
 pub bytes-put : (l : List ℕ) (at i n : ℕ) → at + i < length l → splice (set l (at + i) (n % 256)) at (bytes i (n / 256)) ≡ splice l at (bytes (i + 1) n)
 unfolding bytes
 bytes-put l at i n h = rw add-one (splice-set l at (bytes i (n / 256)) i (n % 256) (length-bytes i (n / 256)) h)
+
+-- `bs` copied over as many elements from `at` on
+pub copied : {A : Type 0} (l bs : List A) (at k : ℕ) → length bs ≡ k → take at l ++ (bs ++ drop k (drop at l)) ≡ splice l at bs
+unfolding splice
+copied {A} l bs at k e = rw (drop-drop k at l, e)

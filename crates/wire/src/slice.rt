@@ -5,18 +5,14 @@ ghost use Rattle.std.specs.Prelude.{◌≡◌, ◌+◌, min, length, take, drop}
 pub fn clamp(s: &[u8], at: usize) -> usize
     ensures { result ≡ min at (length s.now) }
 {
-    if at < s.len() {
-        return at;
-    }
-    s.len()
+    at.min(s.len())
 }
 
 // The bytes from `at` on.
 pub fn tail(s: &[u8], at: usize) -> &[u8]
     ensures { result.now ≡ drop at s.now }
 {
-    let start = clamp(s, at);
-    &s[start..]
+    &s[clamp(s, at)..]
 }
 
 // The `n` bytes from `at` on, or as many as there are.
@@ -24,21 +20,12 @@ pub fn window(s: &[u8], at: usize, n: usize) -> &[u8]
     ensures { result.now ≡ take n (drop at s.now) }
 {
     let rest = tail(s, at);
-    if n <= rest.len() {
-        return &rest[..n];
-    }
-    rest
+    &rest[..clamp(rest, n)]
 }
 
 // The offset `size` bytes after `at`, clamped to `s.len()`. It cannot overflow.
 pub fn offset_after(s: &[u8], at: usize, size: usize) -> usize
     ensures { result ≡ min (at + size) (length s.now) }
 {
-    if s.len() < at {
-        return s.len();
-    }
-    if s.len() - at < size {
-        return s.len();
-    }
-    at + size
+    at.saturating_add(size).min(s.len())
 }

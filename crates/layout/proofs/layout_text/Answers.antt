@@ -1,7 +1,9 @@
 -- `layout::layout_text` meets its contract. Assumes nothing.
-use mathlib.Core.Path.{sym, ◌∙◌}
+use mathlib.Core.Path.{◌≡◌, sym, ap, ◌∙◌}
 use native.Mathlib.Omega.{arith}
+use Rattle.std.proofs.Common.{Err, rules}
 use Rattle.spec.specs.Answer.{answer_head_size}
+use Rattle.spec.specs.Refusal.{refusal_number, outcome_of}
 use Rattle.job_checks.proofs.Verdicts.{refusal-where-refused}
 use Rattle.layout.specs.Steps.{job_outcome}
 use Rattle.layout.proofs.Accepting.{job-given, checked-job}
@@ -14,29 +16,34 @@ use Rattle.layout.proofs.layout_text.Goals as goal
 
 -- ---- a record that does not pass the checks
 
-pub returns-in-Refused : goal.returns-in-Refused
-returns-in-Refused c =
+pub returns-in_err-check : goal.returns-in_err-check
+returns-in_err-check c =
     let a = c.args in
-    promised-refused a.job.now a.answer.now c.in-Refused.number
-    (refusal-where-refused a.job.now c.in-Refused.number (sym c.check.ensures ∙ c.in-Refused.is))
+    let why = c.in_err-check.field-0.0 in
+    let same : c.from_residual.result ≡ Err why = search rules in
+    rw same
+    (promised-refused a.job.now a.answer.now (refusal_number why)
+    (refusal-where-refused a.job.now (refusal_number why) (sym c.check.ensures ∙ ap outcome_of c.in_err-check.was)))
 
 -- ---- one that does: its job stands at these places
 
-pub layout_all-requires : goal.layout_all-requires
-layout_all-requires c = checked-job c.args.job.now c.in-Accepted.places (sym c.check.ensures ∙ c.in-Accepted.is)
+pub invariant_of-checked : goal.invariant_of-checked
+invariant_of-checked c = record { passed = checked-job c.args.job.now _ (sym c.check.ensures ∙ ap outcome_of c.in_ok-check.was) }
 
 -- ---- a chunk is refused
 
-pub returns-in-Refused-layout_all : goal.returns-in-Refused-layout_all
-returns-in-Refused-layout_all c =
+pub returns-in_err-end : goal.returns-in_err-end
+returns-in_err-end c =
     let s = c.args.job.now in
     let lent = c.args.answer.now in
-    let places = c.in-Accepted.places in
-    let number = c.in-Refused-layout_all.number in
+    let places = c.in_ok-check.field-0 in
     let whole = job_outcome s places in
-    let refused = sym c.in-Refused-layout_all.is ∙ c.layout_all.ensures.laid in
-    promised-given s lent places (bytes_of s (λ i. omega (arith, c.type_inv.job i))) (job-given s places (sym c.check.ensures ∙ c.in-Accepted.is))
-    (answers-refused whole lent number (refused-of answer_head_size whole number refused) c.layout_all.ensures.buffer)
+    let why = c.in_err-end.field-0.0 in
+    let same : c.from_residual-in_err-end.result ≡ Err why = search rules in
+    rw same
+    (promised-given s lent places (bytes_of s (λ i. omega (arith, c.type_inv.job i))) (job-given s places (sym c.check.ensures ∙ ap outcome_of c.in_ok-check.was))
+    (answers-refused whole lent (refusal_number why) (refused-of answer_head_size whole (ap outcome_of (sym c.in_err-end.was) ∙ c.layout_all.ensures.laid))
+    c.layout_all.ensures.buffer))
 
 -- ---- none is
 
@@ -44,27 +51,27 @@ pub returns-then-answer-end : goal.returns-then-answer-end
 returns-then-answer-end c =
     let s = c.args.job.now in
     let lent = c.args.answer.now in
-    let places = c.in-Accepted.places in
+    let places = c.in_ok-check.field-0 in
     let whole = job_outcome s places in
-    let is = given-of answer_head_size whole c.in-Done.end (sym c.in-Done.is ∙ c.layout_all.ensures.laid) in
-    promised-given s lent places (bytes_of s (λ i. omega (arith, c.type_inv.job i))) (job-given s places (sym c.check.ensures ∙ c.in-Accepted.is))
+    let is = given-of answer_head_size whole (ap outcome_of (sym c.in_ok-end.was) ∙ c.layout_all.ensures.laid) in
+    promised-given s lent places (bytes_of s (λ i. omega (arith, c.type_inv.job i))) (job-given s places (sym c.check.ensures ∙ ap outcome_of c.in_ok-check.was))
     (answers-too-long whole lent is.0 is.1 (omega (arith, end-length is.0 is.2, c.if-answer-end.true)) c.layout_all.ensures.buffer)
 
 pub put_answer_head-requires : goal.put_answer_head-requires
 put_answer_head-requires c =
-    let whole = job_outcome c.args.job.now c.in-Accepted.places in
-    let is = given-of answer_head_size whole c.in-Done.end (sym c.in-Done.is ∙ c.layout_all.ensures.laid) in
+    let is =
+    given-of answer_head_size (job_outcome c.args.job.now c.in_ok-check.field-0) (ap outcome_of (sym c.in_ok-end.was) ∙ c.layout_all.ensures.laid) in
     let long = end-length is.0 is.2 in
     (omega (arith, long, c.if-answer-end.false), omega (arith, long))
 
-pub returns-else-answer-end : goal.returns-else-answer-end
-returns-else-answer-end c =
+pub returns : goal.returns
+returns c =
     let s = c.args.job.now in
     let lent = c.args.answer.now in
-    let places = c.in-Accepted.places in
+    let places = c.in_ok-check.field-0 in
     let whole = job_outcome s places in
-    let is = given-of answer_head_size whole c.in-Done.end (sym c.in-Done.is ∙ c.layout_all.ensures.laid) in
+    let is = given-of answer_head_size whole (ap outcome_of (sym c.in_ok-end.was) ∙ c.layout_all.ensures.laid) in
     let long = end-length is.0 is.2 in
-    promised-given s lent places (bytes_of s (λ i. omega (arith, c.type_inv.job i))) (job-given s places (sym c.check.ensures ∙ c.in-Accepted.is))
-    (answers-written whole lent is.0 is.1 c.in-Done.end.length c.count_of-count.result (omega (arith, long, c.if-answer-end.false)) long
-    (count-of-chunks s places c.count_of-count.ensures.0 ∙ sym (rows-many s places is.0 is.1)) c.layout_all.ensures.buffer c.put_answer_head.ensures)
+    promised-given s lent places (bytes_of s (λ i. omega (arith, c.type_inv.job i))) (job-given s places (sym c.check.ensures ∙ ap outcome_of c.in_ok-check.was))
+    (answers-written whole lent is.0 is.1 c.in_ok-end.end.length c.count_of.result (omega (arith, long, c.if-answer-end.false)) long
+    (count-of-chunks s places c.count_of.ensures.0 ∙ sym (rows-many s places is.0 is.1)) c.layout_all.ensures.buffer c.put_answer_head.ensures)

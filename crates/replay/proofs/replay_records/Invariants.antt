@@ -3,7 +3,7 @@ use Prim.Native.Nat.{◌≤◌, ◌-◌}
 use Rattle.replay.proofs.replay_records.Given as goal
 
 abbrev pub invariant-loop : goal.invariant-loop
-invariant-loop l = (l.agree ≤ l.counter) × (l.counter ≤ l.count)
+invariant-loop g l = (l.agree ≤ l.counter) × (l.counter ≤ l.count)
 
 abbrev pub decreases-loop : goal.decreases-loop
-decreases-loop l = l.count - l.counter
+decreases-loop g l = l.count - l.counter

@@ -1,25 +1,11 @@
-use Prim.Native.Nat.{ℕ}
-use mathlib.Core.List.{List}
-use mathlib.Core.Path.{◌≡◌, ap, ◌∙◌}
-use native.Mathlib.Omega.{arith}
-use lib.ListN.{drop}
-use Rattle.spec.specs.Utf8.{characters}
-use Rattle.text_order.proofs.Numbers.{count_turn, count-done}
+use mathlib.Core.Path.{◌≡◌, refl, ◌∙◌}
+use Rattle.std.proofs.Common.{ℕ, not, count_by, rules}
+use Rattle.spec.specs.Utf8.{continues}
+use Rattle.text_order.proofs.Numbers.{characters-starts}
 use Rattle.text_order.proofs.characters_between.Goals as goal
-
-pub loop-i-init : goal.loop-i-init
-loop-i-init c = (omega arith, omega arith)
-
-pub loop-i-preserved : goal.loop-i-preserved
-loop-i-preserved c =
-    let l = c.loop-i in
-    let front = c.window-front.result.now in
-    (omega arith, omega (arith, count_turn front l.i (omega arith)))
 
 pub returns : goal.returns
 returns c =
-    let front = c.window-front in
-    let l = c.loop-i in
-    let a = c.args in
-    let counted : l.count ≡ characters (drop a.at front.result.now) = omega (arith, count-done front.result.now l.i (omega arith)) in
-    counted ∙ ap (λ (bs : List ℕ). characters (drop a.at bs)) front.ensures
+    let part = c.tail-part in
+    let counted : c.count.result ≡ count_by (λ (b : ℕ). not (continues b)) part.result.now = search rules in
+    counted ∙ characters-starts part.result.now ∙ rw (part.ensures, c.window.ensures) refl

@@ -7,24 +7,22 @@ use Rattle.spec_laws.proofs.AnswerLength.{length-floats}
 use Rattle.answer_rows.proofs.Puts.{put-start, row_room, row-turn, row_done}
 use Rattle.answer_rows.proofs.floats.put_floats.Goals as goal
 
-pub loop-i-init : goal.loop-i-init
-loop-i-init c =
-    let a = c.args in
-    (omega arith, put-start (omega (arith, length-floats a.values.now)))
+pub loop-value-init : goal.loop-value-init
+loop-value-init c = put-start (omega (arith, length-floats c.args.values.now))
 
 pub put_f32-requires : goal.put_f32-requires
 put_f32-requires c =
-    let l = c.loop-i in
+    let l = c.loop-value in
     let vs = c.args.values.now in
-    omega (arith, length-float_bytes (get_or vs l.i nan), row_room float_bytes vs l.i l.invariant.1 nan (omega arith))
+    omega (arith, length-float_bytes (get_or vs l.value-index nan), row_room float_bytes vs l.value-index l.invariant nan (omega arith))
 
-pub loop-i-preserved : goal.loop-i-preserved
-loop-i-preserved c =
-    let l = c.loop-i in
+pub loop-value-preserved : goal.loop-value-preserved
+loop-value-preserved c =
+    let l = c.loop-value in
     let vs = c.args.values.now in
-    (omega arith, row-turn float_bytes vs l.i l.invariant.1 nan (omega arith) c.put_f32.ensures (omega (arith, length-float_bytes (get_or vs l.i nan))))
+    row-turn float_bytes vs l.value-index l.invariant nan (omega arith) c.put_f32.ensures (omega (arith, length-float_bytes (get_or vs l.value-index nan)))
 
 pub returns : goal.returns
 returns c =
-    let l = c.loop-i in
-    (row_done float_bytes c.args.values.now l.i l.invariant.1 (omega arith)).0
+    let l = c.loop-value in
+    (row_done float_bytes c.args.values.now l.value-index l.invariant (omega arith)).0

@@ -1,12 +1,12 @@
 -- `answer_rows::glyphs::put_glyph` meets its contract. Assumes nothing.
 use Prim.Native.Nat.{◌+◌}
-use lib.IntN.{ℤ, neg_ℤ}
-use lib.Ieee.{binary32, of_int}
-use mathlib.Core.Path.{ap, ◌∙◌}
-use mir.Syntax.{w32}
-use mir.Facts.{to_z-of_z}
+use lib.IntN.{neg_ℤ}
+use lib.Ieee.{Float, binary32, of_int}
+use mathlib.Core.Path.{◌≡◌, ap}
 use native.Mathlib.Omega.{arith}
+use Rattle.std.proofs.Common.{rules}
 use Rattle.spec.specs.Bytes.{bytes, float_bytes}
+use Rattle.spec.specs.Single.{◌+ᶠ◌}
 use Rattle.spec.specs.Answer.{glyph_row_bytes}
 use Rattle.spec_laws.proofs.Numbers.{length-bytes, length-float_bytes}
 use Rattle.spec_laws.proofs.AnswerLength.{length-glyph_row}
@@ -18,10 +18,12 @@ pub returns : goal.returns
 unfolding glyph_row_bytes
 returns c =
     let a = c.args in
-    let told = c.struct_told-1.given.1.1.1 in
-    let is_x = c.units.ensures ∙ ap (of_int binary32) (to_z-of_z {w = w32} {z = a.glyph.dx} (record { sfits = told.0.1 })) in
-    let is_y = c.units_negated.ensures ∙ ap (λ (z : ℤ). of_int binary32 (neg_ℤ z)) (to_z-of_z {w = w32} {z = a.glyph.dy} (record { sfits = told.1.0.1 })) in
-    let row = glyph_row a.x a.glyph in
-    put_four a.out.now a.at (bytes 4 row.id) (bytes 1 row.font) (float_bytes row.x) (float_bytes row.y) {k₁ = a.at + 4} {k₂ = a.at + 5} {k₃ = a.at + 9} (omega (arith, length-glyph_row row))
-    (omega (arith, length-bytes 4 row.id)) (omega (arith, length-bytes 1 row.font)) (omega (arith, length-float_bytes row.x))
-    c.put_u32.ensures c.put_u8.ensures (rw is_x at c.put_f32.ensures) (rw is_y at c.put_f32-2.ensures)
+    let is_x : c.units.result ≡ of_int binary32 a.glyph.dx = search rules in
+    let is_y : c.units_negated.result ≡ of_int binary32 (neg_ℤ a.glyph.dy) = search rules in
+    let is-width : c.units-2.result ≡ of_int binary32 a.glyph.width = search rules in
+    let row = glyph_row a.x a.glyph in (
+      put_four a.out.now a.at (bytes 4 row.id) (bytes 1 row.font) (float_bytes row.x) (float_bytes row.y) {k₁ = a.at + 4} {k₂ = a.at + 5} {k₃ = a.at + 9} (omega (arith, length-glyph_row row))
+          (omega (arith, length-bytes 4 row.id)) (omega (arith, length-bytes 1 row.font)) (omega (arith, length-float_bytes row.x))
+          c.put_u32.ensures c.put_u8.ensures (rw is_x at c.put_f32.ensures) (rw is_y at c.put_f32-2.ensures),
+      ap (λ (w : Float). a.x +ᶠ w) is-width,
+    )

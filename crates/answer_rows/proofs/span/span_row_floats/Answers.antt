@@ -1,11 +1,7 @@
 -- `answer_rows::span::span_row_floats` meets its contract. Assumes nothing.
-use mathlib.Core.Path.{refl}
 use Rattle.spec.specs.Decode.{parts_of}
 use Rattle.spec.specs.Layout.{span_row}
 use Rattle.answer_rows.proofs.span.span_row_floats.Goals as goal
-
-pub resolve_baseline-shift-requires : goal.resolve_baseline-shift-requires
-resolve_baseline-shift-requires c = c.requires
 
 pub returns : goal.returns
 unfolding span_row parts_of
@@ -17,4 +13,4 @@ returns c cs k =
     let under = c.under_offset-under.ensures in
     let over = c.over_offset-over.ensures in
     let through = c.through_offset-through.ensures in
-    rw (shift, thick, under, over, through, font, span) refl
+    rw (shift, thick, under, over, through, font, span)

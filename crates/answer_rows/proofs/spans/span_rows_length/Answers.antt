@@ -1,38 +1,26 @@
-use mathlib.Core.Path.{◌∙◌}
+-- `answer_rows::spans::span_rows_length` meets its contract. Assumes nothing.
+use Prim.Native.Nat.{◌*◌, ◌≤◌, ◌<◌}
+use mathlib.Core.Path.{◌≡◌, sym, ◌∙◌}
+use native.Mathlib.Nat.{mul-le-mul}
 use native.Mathlib.Omega.{arith}
-use lib.ListN.{length}
-use Rattle.decoration.specs.Runs.{all_clusters}
-use Rattle.answer_rows.proofs.SpanRows.{sum-turn, sum_done}
-use Rattle.answer_rows.proofs.Most.{spans-most}
+use lib.ListN.{length, drop}
+use Rattle.std.proofs.Common.{rules}
+use Rattle.std.specs.List.{sum_by}
+use Rattle.spec.specs.Decode.{parts_of}
+use Rattle.spec.specs.Answer.{span_row_size}
+use Rattle.answer_rows.specs.Spans.{span_size}
+use Rattle.answer_rows.proofs.SpanRows.{rows_sized, rows_few}
 use Rattle.answer_rows.proofs.spans.span_rows_length.Goals as goal
 
-pub span_length-size-requires : goal.span_length-size-requires
-span_length-size-requires c = c.requires.0
-
-pub overflow_add-size : goal.overflow_add-size
-overflow_add-size c =
-    let l = c.loop-i in
-    let few = c.requires.0.few in
-    let small = spans-most l.i 255 (length c.args.words.now) 65535 (omega (arith, c.requires.1, l.invariant.0)) few in
-    omega (arith, small, c.span_length-size.ensures.0, l.invariant.1, few)
-
-pub loop-i-preserved : goal.loop-i-preserved
-loop-i-preserved c =
-    let l = c.loop-i in
+pub sum-requires-clause-fits : goal.sum-requires-clause-fits
+sum-requires-clause-fits c =
     let a = c.args in
-    let got = c.span_length-size.ensures in (
-      omega arith,
-      omega (arith, got.0, l.invariant.1),
-      λ job origin.
-          sum-turn job origin (all_clusters a.floats.now a.words.now) a.s.now a.spans.now l.size l.i (omega arith) (got.1 job origin l.i) ∙ l.invariant.2 job origin,
-    )
+    let most : length a.spans.now * span_row_size (length a.clusters.now) ≤ 255 * span_row_size 65535 = (let runs : span_row_size (length a.clusters.now) ≤ span_row_size 65535 = omega (arith, c.requires.0) in mul-le-mul c.requires.1 runs) in
+    let few : sum_by (λ at. span_size a.clusters.now (parts_of (drop at a.s.now))) a.spans.now < 18446744073709551616 = omega (arith, rows_few a.clusters.now a.s.now a.spans.now) in
+    search rules
 
 pub returns : goal.returns
 returns c =
-    let l = c.loop-i in
     let a = c.args in
-    let n = length a.words.now in
-    let most = spans-most l.i (length a.spans.now) n n l.invariant.0 (omega arith) in (
-      omega (arith, most, l.invariant.1),
-      λ job origin. sum_done job origin (all_clusters a.floats.now a.words.now) a.s.now a.spans.now l.size l.i (omega arith) ∙ l.invariant.2 job origin,
-    )
+    let summed : c.sum.result ≡ sum_by (λ at. span_size a.clusters.now (parts_of (drop at a.s.now))) a.spans.now = search rules in
+    (rw summed (rows_few a.clusters.now a.s.now a.spans.now), λ job origin. summed ∙ sym (rows_sized job origin a.clusters.now a.s.now 0 a.spans.now))

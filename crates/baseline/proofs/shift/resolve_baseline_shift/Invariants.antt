@@ -1,6 +1,4 @@
--- `baseline::shift::resolve_baseline_shift` meets its contract. The loop's invariant: the shifts that are left, added to the sum, give
--- what all give. Assumes nothing.
-use Prim.Native.Nat.{◌≤◌}
+-- `baseline::shift::resolve_baseline_shift` meets its contract. The loop's invariant: with the first k shifts the sum is that of them all. Assumes nothing.
 use mathlib.Core.Path.{◌≡◌}
 use Rattle.spec.specs.Single.{+0}
 use Rattle.spec.specs.Decode.{shift_bytes, shift_of}
@@ -9,8 +7,4 @@ use Rattle.baseline.proofs.Shifts.{add_shift}
 use Rattle.baseline.proofs.shift.resolve_baseline_shift.Given as goal
 
 abbrev pub invariant-loop-k : goal.invariant-loop-k
-invariant-loop-k l =
-    (l.k ≤ l.n) × (added shift_bytes shift_of (add_shift l.font l.size) l.k l.shifts l.sum ≡ added shift_bytes shift_of (add_shift l.font l.size) l.n l.shifts +0)
-
-abbrev pub decreases-loop-k : goal.decreases-loop-k
-decreases-loop-k l = l.k
+invariant-loop-k l = added shift_bytes shift_of (add_shift l.font l.size) l.k l.shifts l.sum ≡ added shift_bytes shift_of (add_shift l.font l.size) l.n l.shifts +0

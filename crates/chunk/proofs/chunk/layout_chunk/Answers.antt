@@ -33,18 +33,20 @@ listed_chunk-requires c = (
 
 -- ---- and the one has few
 
-pub chunk_of_32-requires : goal.chunk_of_32-requires
-chunk_of_32-requires c =
+pub invariant_of-chunk : goal.invariant_of-chunk
+invariant_of-chunk c =
+    let one = alone _ _ (omega arith) c.glyph_span-own.ensures c.glyph_span.ensures (omega arith) in
+    record { merged = own-merged (spanned-of c.requires c.find_spans-n.ensures) _ one c.list_own-count.new.rows c.list_own-count.ensures.1 c.list_own-count.ensures.2 }
+
+pub chunk_of-requires : goal.chunk_of-requires
+chunk_of-requires c =
     let spans = take c.find_spans-n.result c.find_spans-n.new.places in
     let rows = c.list_own-count.new.rows in
     let few-rows : c.list_own-count.result ≤ 32 = omega (arith, c.list_own-count.ensures.1, c.own_count.ensures, c.if-own_count-gt-SHORT.false) in
     let held : c.list_own-count.result ≤ length rows = omega (arith, c.list_own-count.ensures.0, few-rows) in
-    let one = alone _ _ (omega arith) c.glyph_span-own.ensures c.glyph_span.ensures (omega arith) in (
-      omega (arith, clusters-at-most c.args.s.now spans (take c.list_own-count.result rows), lent_length rows held, few-rows),
-      own-merged (spanned-of c.requires c.find_spans-n.ensures) _ one rows c.list_own-count.ensures.1 c.list_own-count.ensures.2,
-    )
+    (omega arith, omega (arith, clusters-at-most c.args.s.now spans (take c.list_own-count.result rows), lent_length rows held, few-rows))
 
 pub returns : goal.returns
 returns c =
     let one = alone _ _ (omega arith) c.glyph_span-own.ensures c.glyph_span.ensures (omega arith) in
-    merged-laid (own-merged (spanned-of c.requires c.find_spans-n.ensures) _ one _ c.list_own-count.ensures.1 c.list_own-count.ensures.2) c.chunk_of_32.ensures
+    merged-laid (own-merged (spanned-of c.requires c.find_spans-n.ensures) _ one _ c.list_own-count.ensures.1 c.list_own-count.ensures.2) c.chunk_of.ensures

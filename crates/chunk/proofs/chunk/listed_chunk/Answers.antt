@@ -17,18 +17,18 @@ pub slice_bounds-glyphs-end : goal.slice_bounds-glyphs-end
 slice_bounds-glyphs-end c =
     lent_length c.list_own-count.new.rows (omega (arith, c.list_own-count.ensures.0, c.list_own-count.ensures.1, own-few c.requires.0 c.args.own))
 
-pub chunk_of_64-requires : goal.chunk_of_64-requires
-chunk_of_64-requires c = (
-  leb-true _ 64 (rw (← c.clusters_at_most.ensures) c.if-clusters_at_most.true),
-  own-merged c.requires.0 _ c.requires.1 _ c.list_own-count.ensures.1 c.list_own-count.ensures.2,
-)
+pub invariant_of-chunk : goal.invariant_of-chunk
+invariant_of-chunk c = record { merged = own-merged c.requires.0 _ c.requires.1 _ c.list_own-count.ensures.1 c.list_own-count.ensures.2 }
+
+pub chunk_of-requires : goal.chunk_of-requires
+chunk_of-requires c = (omega arith, leb-true _ 64 (rw (← c.clusters_at_most.ensures) c.if-clusters_at_most.true))
 
 pub returns-then-clusters_at_most : goal.returns-then-clusters_at_most
 returns-then-clusters_at_most c =
-    merged-laid (own-merged c.requires.0 _ c.requires.1 _ c.list_own-count.ensures.1 c.list_own-count.ensures.2) c.chunk_of_64.ensures
+    merged-laid (own-merged c.requires.0 _ c.requires.1 _ c.list_own-count.ensures.1 c.list_own-count.ensures.2) c.chunk_of.ensures
 
-pub long_chunk-requires : goal.long_chunk-requires
-long_chunk-requires c = own-merged c.requires.0 _ c.requires.1 _ c.list_own-count.ensures.1 c.list_own-count.ensures.2
+pub invariant_of-chunk-2 : goal.invariant_of-chunk-2
+invariant_of-chunk-2 c = record { merged = own-merged c.requires.0 _ c.requires.1 _ c.list_own-count.ensures.1 c.list_own-count.ensures.2 }
 
 pub returns : goal.returns
 returns c =

@@ -7,14 +7,8 @@ use Rattle.chunk.proofs.lengths.adjust_lengths.Goals as goal
 
 pub apply_length_adjust-lengths-requires : goal.apply_length_adjust-lengths-requires
 apply_length_adjust-lengths-requires c =
-    let given = c.requires in (
-      given.few,
-      record {
-        ordered = ordered-sorted given.sortable c.logical_order.auto.order c.logical_order.ensures;
-        marked = omega arith;
-        rows = given.rows;
-      },
-    )
+    let given = c.requires in
+    (given.few, record { ordered = ordered-sorted given.sortable c.logical_order.auto.order c.logical_order.ensures; marked = omega arith })
 
 pub returns : goal.returns
 returns c = unadjusted _ _ c.any_length.ensures c.if-any_length.false

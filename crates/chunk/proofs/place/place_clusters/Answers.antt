@@ -5,9 +5,9 @@ use Prim.Native.Nat.{ℕ}
 use mathlib.Core.Path.{sym, ap, ◌∙◌}
 use mathlib.Core.List.{List, map}
 use native.Mathlib.Omega.{arith}
+use Rattle.spec.specs.Arithmetic.{indexes}
+use Rattle.spec.specs.Cluster.{rounded}
 use Rattle.spec.specs.Position.{character_number}
-use Rattle.cluster_table.specs.Clusters.{indexes_in}
-use Rattle.text_order.specs.Ordered.{Ordered}
 use Rattle.text_order.proofs.Order.{ordered-sorted}
 use Rattle.chunk.specs.Steps.{chunk_in}
 use Rattle.chunk.proofs.Placed.{anchor-is}
@@ -15,10 +15,7 @@ use Rattle.chunk.proofs.Still.{still-ended, still_placed}
 use Rattle.chunk.proofs.place.place_clusters.Goals as goal
 
 pub positioned_between-requires : goal.positioned_between-requires
-positioned_between-requires c =
-    let given = c.requires in
-    still-ended _ given.unmoved c.rotate_shifts.ensures given.some (omega arith) given.sortable.rows c.cluster_at-any.result
-    c.cluster_at-any.ensures
+positioned_between-requires c = still-ended _ c.requires.unmoved c.rotate_shifts.ensures (omega (arith, c.requires.some, c.rotate_shifts.auto.clusters))
 
 pub returns-then-is_still : goal.returns-then-is_still
 returns-then-is_still c =
@@ -27,26 +24,16 @@ returns-then-is_still c =
 
 pub character_numbers-requires : goal.character_numbers-requires
 character_numbers-requires c =
-    let in_order : let a = c.args in Ordered c.logical_order.new.order a.words.now a.n =
-    ordered-sorted c.requires.sortable c.logical_order.auto.order c.logical_order.ensures in
     let given = c.requires in
-    (given.short, omega arith, in_order)
+    (given.short, omega arith, ordered-sorted given.sortable c.logical_order.auto.order c.logical_order.ensures)
 
 pub resolve_clusters_positions_horizontal-requires : goal.resolve_clusters_positions_horizontal-requires
 resolve_clusters_positions_horizontal-requires c =
-    let in_order : let a = c.args in Ordered c.logical_order.new.order a.words.now a.n =
-    ordered-sorted c.requires.sortable c.logical_order.auto.order c.logical_order.ensures in
-    let given = c.requires in (
-      record {
-        some = given.some;
-        rows = given.rows;
-        numbered = omega arith;
-      },
-      in_order,
-    )
+    let given = c.requires in
+    (record { some = given.some; numbered = omega arith }, ordered-sorted given.sortable c.logical_order.auto.order c.logical_order.ensures)
 
 pub returns : goal.returns
 returns c =
     let a = c.args in
     c.resolve_clusters_positions_horizontal.ensures a.next.before.offset (chunk_in a.s.now a.next) (anchor-is a.s.now a.next ∙ sym c.anchor_at-anchor.ensures)
-    (c.character_numbers.ensures ∙ ap (λ (bytes : List ℕ). map (character_number bytes a.next.before.offset) (indexes_in a.words.now a.n)) c.requires.own)
+    (c.character_numbers.ensures ∙ ap (λ (bytes : List ℕ). map (character_number bytes a.next.before.offset) (indexes rounded a.clusters.now)) c.requires.own)

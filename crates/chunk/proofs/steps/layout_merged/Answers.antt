@@ -1,33 +1,27 @@
 -- `chunk::steps::layout_merged` meets its contract: step by step, each from what the ones before it gave. Assumes nothing.
-use Prim.Native.Nat.{ℕ, ◌≤◌, ◌<◌}
+use Prim.Native.Nat.{ℕ, ◌≤◌}
 use mathlib.Core.Path.{◌≡◌, refl, ap, ◌∙◌}
 use mathlib.Core.List.{List}
 use native.Mathlib.Omega.{arith}
-use lib.ListN.{length, take}
+use Rattle.std.proofs.Common.{Err, rules}
+use lib.ListN.{length}
 use lib.Ieee.{Float}
-use lib.Seq.{length-take-le}
 use Rattle.spec_laws.proofs.Unmoved.{adjusted-unmoved}
 use Rattle.spec.specs.declared.Cluster.{Cluster}
 use Rattle.spec.specs.declared.Point.{Point}
 use Rattle.spec.specs.Outcome.{given}
 use Rattle.spec.specs.Decode.{chunk_of}
 use Rattle.spec.specs.Answer.{ChunkRow, chunk_row_bytes}
-use Rattle.spec.specs.Layout.{adjusted_clusters, resolve_clusters_positions_horizontal, origin_of, pen_after}
-use Rattle.job_rows.specs.Rows.{glyphs_at}
-use Rattle.cluster_table.specs.Clusters.{clusters_of}
-use Rattle.cluster_table.proofs.Rows.{clusters-length}
-use Rattle.text_order.specs.Ordered.{Sortable}
+use Rattle.spec.specs.Layout.{adjusted_clusters}
+use Rattle.job_rows.specs.Rows.{spans_in, glyphs_at}
 use Rattle.text_order.proofs.Order.{sortable-still}
-use Rattle.position.specs.Given.{Placed}
-use Rattle.position.specs.declared.Positioned.{Positioned}
 use Rattle.answer_rows.proofs.ChunkRows.{empty-length}
-use Rattle.answer_rows.specs.Chunks.{chunk_row_max, row_at}
+use Rattle.answer_rows.specs.Chunks.{chunk_row_max}
 use Rattle.chunk.specs.declared.progress.NextChunk.{NextChunk}
 use Rattle.chunk.specs.Steps.{job_in, chunk_in}
-use Rattle.chunk.specs.Checked.{SpannedChunk, MergedChunk}
+use Rattle.chunk.specs.Checked.{MergedChunk}
 use Rattle.chunk.proofs.Checked.{few_bytes, widths-ok, units-ok}
-use Rattle.chunk.proofs.Adjusted.{adjusted-is, letter-rows, done-kept, done-given, told-refused}
-use Rattle.decoration.proofs.Walks.{cut-tables, cut-clusters}
+use Rattle.chunk.proofs.Adjusted.{worded-length, worded-sortable, adjusted-whole, done-kept, done-given, told-refused}
 use Rattle.chunk.proofs.Placed.{chunk_placed, OneRow, none_of, one-bytes, one-laid, refused-merged, empty-row, clusters-row}
 use Rattle.chunk.proofs.RowLength.{placed-short}
 use Rattle.chunk.proofs.steps.layout_merged.Goals as goal
@@ -36,172 +30,148 @@ use Rattle.chunk.proofs.steps.layout_merged.Goals as goal
 
 pub form_clusters-n-requires : goal.form_clusters-n-requires
 form_clusters-n-requires c =
-    let given = c.requires in
-    record {
-      few_glyphs = given.0.few;
-      few_spans = omega (arith, given.0.spanned.few);
-      widths = widths-ok given.0;
-      float_rows = given.1.float_rows;
-      word_rows = given.1.word_rows;
-    }
+    let m = c.args.chunk.merged in
+    record { few_glyphs = m.few; few_spans = omega (arith, m.spanned.few); widths = widths-ok m; rows = c.requires.rows }
 
-pub adjust_lengths-adjusted-requires : goal.adjust_lengths-adjusted-requires
-adjust_lengths-adjusted-requires c =
+pub adjust_lengths-requires : goal.adjust_lengths-requires
+adjust_lengths-requires c =
+    let a = c.args.chunk in
+    let m = a.merged in
+    let text = c.text_of-text.ensures ∙ ap (λ (bs : List ℕ). (chunk_of bs).text) c.tail.ensures in
     let form = c.form_clusters-n.ensures in
-    let indexes =
-    letter-rows _ _ _ _ _ _ (omega arith) (omega arith) (omega arith) (omega arith) c.apply_letter_spacing.ensures in
+    let many = worded-length a.glyphs.now m.spanned text form c.apply_writing_mode.ensures c.apply_letter_spacing.ensures c.apply_word_spacing.ensures in
     record {
-      few = omega (arith, c.requires.0.spanned.few);
-      rows = omega arith;
-      spared = omega arith;
-      sortable = record { rows = omega arith; count = omega arith; few = omega (arith, form.few, c.requires.0.few); indexes = rw indexes form.indexes };
+      few = omega (arith, m.spanned.few);
+      spared = omega (arith, many, form.count, c.requires.spared);
+      sortable = worded-sortable a.glyphs.now m.spanned text form c.apply_writing_mode.ensures c.apply_letter_spacing.ensures c.apply_word_spacing.ensures
+          (omega (arith, form.count, c.requires.ordered)) (omega (arith, form.few, m.few));
     }
 
-pub returns-in-Refused : goal.returns-in-Refused
-returns-in-Refused c =
-    let a = c.args in
-    let text = c.text_of-text.ensures ∙ ap (λ (bs : List ℕ). (chunk_of bs).text) c.tail-chunk.ensures in
+pub returns-in_err-adjust_lengths : goal.returns-in_err-adjust_lengths
+returns-in_err-adjust_lengths c =
+    let a = c.args.chunk in
+    let m = a.merged in
+    let text = c.text_of-text.ensures ∙ ap (λ (bs : List ℕ). (chunk_of bs).text) c.tail.ensures in
     let told =
-    c.adjust_lengths-adjusted.ensures
-    ∙ adjusted-is a.merged.now c.requires.0.spanned text c.form_clusters-n.ensures.clusters c.apply_writing_mode.ensures
-    c.apply_letter_spacing.ensures c.apply_word_spacing.ensures in
-    refused-merged a.s.now a.next a.merged.now (told-refused _ _ told c.in-Refused.is)
+    adjusted-whole a.glyphs.now m.spanned text c.form_clusters-n.ensures c.apply_writing_mode.ensures c.apply_letter_spacing.ensures c.apply_word_spacing.ensures
+    _ _ c.adjust_lengths.ensures in
+    let same : c.from_residual.result ≡ Err c.in_err-adjust_lengths.field-0.0 = search rules in
+    rw same (refused-merged a.s.now a.next a.glyphs.now (told-refused _ _ told c.in_err-adjust_lengths.was))
 
 -- ---- a chunk that has no cluster
 
 pub progress_behind-requires : goal.progress_behind-requires
 progress_behind-requires c =
-    let checked = c.requires.0.spanned.checked in
-    let text = c.text_of-text.ensures ∙ ap (λ (bs : List ℕ). (chunk_of bs).text) c.tail-chunk.ensures in
+    let a = c.args.chunk in
+    let m = a.merged in
+    let text = c.text_of-text.ensures ∙ ap (λ (bs : List ℕ). (chunk_of bs).text) c.tail.ensures in
+    let checked = m.spanned.checked in
     let short : length c.text_of-text.result.now ≤ 4096 = rw text (few_bytes checked) in
     let long = c.write_empty_row-row.ensures.length ∙ empty-length _ in
     (omega (arith, short, checked.offset), omega (arith, long, checked.bytes))
 
 pub returns-then-n-eq0 : goal.returns-then-n-eq0
 returns-then-n-eq0 c =
-    let a = c.args in
-    let text = c.text_of-text.ensures ∙ ap (λ (bs : List ℕ). (chunk_of bs).text) c.tail-chunk.ensures in
+    let a = c.args.chunk in
+    let m = a.merged in
+    let text = c.text_of-text.ensures ∙ ap (λ (bs : List ℕ). (chunk_of bs).text) c.tail.ensures in
     let told =
-    c.adjust_lengths-adjusted.ensures
-    ∙ adjusted-is a.merged.now c.requires.0.spanned text c.form_clusters-n.ensures.clusters c.apply_writing_mode.ensures
-    c.apply_letter_spacing.ensures c.apply_word_spacing.ensures in
-    let none = done-given _ _ told c.in-Done.is ∙ ap given (none_of _ _ _ c.if-n-eq0.true) in
-    one-laid a.s.now a.next a.merged.now (empty-row a.s.now a.next a.merged.now) none refl text c.write_empty_row-row.ensures c.progress_behind.ensures
+    adjusted-whole a.glyphs.now m.spanned text c.form_clusters-n.ensures c.apply_writing_mode.ensures c.apply_letter_spacing.ensures c.apply_word_spacing.ensures
+    _ _ c.adjust_lengths.ensures in
+    let many = worded-length a.glyphs.now m.spanned text c.form_clusters-n.ensures c.apply_writing_mode.ensures c.apply_letter_spacing.ensures c.apply_word_spacing.ensures in
+    let none = done-given _ _ told c.in_ok-adjust_lengths.was ∙ ap given (none_of _ (omega (arith, many, c.if-n-eq0.true, c.adjust_lengths.auto.clusters))) in
+    one-laid a.s.now a.next a.glyphs.now (empty-row a.s.now a.next a.glyphs.now) none refl text c.write_empty_row-row.ensures c.progress_behind.ensures
 
 -- ---- step 7
 
 pub place_clusters-placed-requires : goal.place_clusters-placed-requires
 place_clusters-placed-requires c =
-    let a = c.args in
-    let checked = c.requires.0.spanned.checked in
-    let form = c.form_clusters-n.ensures in
-    let text = c.text_of-text.ensures ∙ ap (λ (bs : List ℕ). (chunk_of bs).text) c.tail-chunk.ensures in
-    let short : length c.text_of-text.result.now ≤ 4096 = rw text (few_bytes checked) in
+    let a = c.args.chunk in
+    let m = a.merged in
+    let text = c.text_of-text.ensures ∙ ap (λ (bs : List ℕ). (chunk_of bs).text) c.tail.ensures in
     let told =
-    c.adjust_lengths-adjusted.ensures
-    ∙ adjusted-is a.merged.now c.requires.0.spanned text form.clusters c.apply_writing_mode.ensures
-    c.apply_letter_spacing.ensures c.apply_word_spacing.ensures in
-    let indexes =
-    letter-rows _ _ _ _ _ _ (omega arith) (omega arith) (omega arith) (omega arith) c.apply_letter_spacing.ensures in
-    let before : Sortable a.order.now c.apply_letter_spacing.new.words c.form_clusters-n.result =
-    record { rows = omega arith; count = omega arith; few = omega (arith, form.few, c.requires.0.few); indexes = rw indexes form.indexes } in
-    let rows : c.form_clusters-n.result ≤ length c.adjust_lengths-adjusted.new.words = omega arith in
+    adjusted-whole a.glyphs.now m.spanned text c.form_clusters-n.ensures c.apply_writing_mode.ensures c.apply_letter_spacing.ensures c.apply_word_spacing.ensures
+    _ _ c.adjust_lengths.ensures in
+    let form = c.form_clusters-n.ensures in
+    let many = worded-length a.glyphs.now m.spanned text form c.apply_writing_mode.ensures c.apply_letter_spacing.ensures c.apply_word_spacing.ensures in
+    let before =
+    worded-sortable a.glyphs.now m.spanned text form c.apply_writing_mode.ensures c.apply_letter_spacing.ensures c.apply_word_spacing.ensures
+    {order = c.args.order.now} (omega (arith, form.count, c.requires.ordered)) (omega (arith, form.few, m.few)) in
+    let short : length c.text_of-text.result.now ≤ 4096 = rw text (few_bytes m.spanned.checked) in
+    let same = c.adjust_lengths.auto.clusters in
     record {
       own = text;
-      short = omega (arith, short, checked.offset);
-      some = omega (arith, c.if-n-eq0.false);
-      rows = omega arith;
-      spared = omega arith;
-      sortable = sortable-still _ before c.adjust_lengths-adjusted.auto.order rows
-          (done-kept _ _ _ _ _ (omega arith) before.rows (omega arith) rows _ _ c.in-Done.is c.adjust_lengths-adjusted.ensures);
-      unmoved = adjusted-unmoved _ _ _ _ (done-given _ _ told c.in-Done.is);
+      short = omega (arith, short, m.spanned.checked.offset);
+      some = omega (arith, many, same, c.if-n-eq0.false);
+      spared = omega (arith, many, same, form.count, c.requires.spared, c.adjust_lengths.auto.spare);
+      sortable = sortable-still _ before c.adjust_lengths.auto.order (done-kept (spans_in a.s.now a.spans.now) _ _ c.in_ok-adjust_lengths.was c.adjust_lengths.ensures);
+      unmoved = adjusted-unmoved _ _ _ _ (done-given _ _ told c.in_ok-adjust_lengths.was);
     }
 
 -- ---- step 8: the row
 
--- the chunk is placed as the row that is written
-one-row : {s : List ℕ} {next : NextChunk} {spans : List ℕ} (merged : List ℕ) → SpannedChunk s next spans
-    → (cs : List Cluster) (n : ℕ) → length cs ≡ n → 0 < n → (p : Positioned) (floats : List (List Float)) (words : List (List ℕ)) → n ≤ length floats → n ≤ length words
-    → Placed (resolve_clusters_positions_horizontal (job_in s next) next.before.offset (chunk_in s next) cs) (clusters_of floats words n) p
-    → (origin pen : Point) → origin ≡ origin_of next.before.pen (chunk_in s next) → pen ≡ pen_after next.job.mode origin p.end_x p.end_y
-    → OneRow s next merged (chunk_placed s next merged cs) pen p.extent
-    (row_at s next.job spans merged (record { origin = origin; pen = pen }) (take n floats) (take n words))
-one-row {s} {next} merged places cs n many some p floats words f w is origin pen eo ep =
-    rw (cut-clusters floats words n f w) (clusters-row s next merged places cs _ (omega (arith, many, some)) p is origin pen eo ep)
-
--- which is no longer than the longest
-row-short : {s : List ℕ} {next : NextChunk} {spans merged : List ℕ} → MergedChunk s next spans merged
-    → (cs : List Cluster) (n : ℕ) → length cs ≡ n → adjusted_clusters (job_in s next) (chunk_in s next) (glyphs_at s merged) ≡ given cs
-    → {pen : Point} {extent : Float} (row : ChunkRow) → OneRow s next merged (chunk_placed s next merged cs) pen extent row
-    → length (chunk_row_bytes row) ≤ chunk_row_max (length spans) (length merged) n
-row-short {s} {next} {spans} {merged} m cs n many e row one =
-    let bytes = ap length (one-bytes s next merged one) in
-    let most = ap (chunk_row_max (length spans) (length merged)) many in
-    omega (arith, placed-short m cs e, bytes, most)
+-- it is no longer than the longest
+row-short : {s : List ℕ} {next : NextChunk} {spans glyphs : List ℕ} → MergedChunk s next spans glyphs
+    → (cs : List Cluster) → adjusted_clusters (job_in s next) (chunk_in s next) (glyphs_at s glyphs) ≡ given cs
+    → {pen : Point} {extent : Float} (row : ChunkRow) → OneRow s next glyphs (chunk_placed s next glyphs cs) pen extent row
+    → length (chunk_row_bytes row) ≤ chunk_row_max (length spans) (length glyphs) (length cs)
+row-short {s} {next} {spans} {glyphs} m cs e row one = rw (← (one-bytes s next glyphs one)) (placed-short m cs e)
 
 pub write_chunk_row-row-requires : goal.write_chunk_row-row-requires
 write_chunk_row-row-requires c =
-    let a = c.args in
-    let m = c.requires.0 in
-    let n = c.form_clusters-n.result in
-    let few = c.form_clusters-n.ensures.few in
-    let floats : n ≤ length c.place_clusters-placed.new.floats = omega arith in
-    let words : n ≤ length c.place_clusters-placed.new.words = omega arith in
-    let text = c.text_of-text.ensures ∙ ap (λ (bs : List ℕ). (chunk_of bs).text) c.tail-chunk.ensures in
+    let a = c.args.chunk in
+    let m = a.merged in
+    let text = c.text_of-text.ensures ∙ ap (λ (bs : List ℕ). (chunk_of bs).text) c.tail.ensures in
     let told =
-    c.adjust_lengths-adjusted.ensures
-    ∙ adjusted-is a.merged.now m.spanned text c.form_clusters-n.ensures.clusters c.apply_writing_mode.ensures
-    c.apply_letter_spacing.ensures c.apply_word_spacing.ensures in
-    let many = clusters-length c.adjust_lengths-adjusted.new.floats c.adjust_lengths-adjusted.new.words n (omega arith) (omega arith) in
+    adjusted-whole a.glyphs.now m.spanned text c.form_clusters-n.ensures c.apply_writing_mode.ensures c.apply_letter_spacing.ensures c.apply_word_spacing.ensures
+    _ _ c.adjust_lengths.ensures in
+    let many = worded-length a.glyphs.now m.spanned text c.form_clusters-n.ensures c.apply_writing_mode.ensures c.apply_letter_spacing.ensures c.apply_word_spacing.ensures in
+    let same = c.adjust_lengths.auto.clusters in
     let one =
-    one-row a.merged.now m.spanned _ n many (omega (arith, c.if-n-eq0.false)) c.place_clusters-placed.result _ _ floats words
+    clusters-row a.s.now a.next a.glyphs.now m.spanned c.adjust_lengths.new.clusters _ (omega (arith, many, same, c.if-n-eq0.false)) c.place_clusters-placed.result
     c.place_clusters-placed.ensures c.origin_of-origin.result c.pen_after-pen.result c.origin_of-origin.ensures c.pen_after-pen.ensures in
-    let short = row-short m _ n many (done-given _ _ told c.in-Done.is) _ one in (
+    let short = row-short m _ (done-given _ _ told c.in_ok-adjust_lengths.was) _ one in
+    let placed = c.place_clusters-placed.auto.clusters in (
       record {
         few_spans = omega (arith, m.spanned.few);
         few_glyphs = omega (arith, m.few);
-        tables = cut-tables _ _ n floats words (omega (arith, few, m.few));
+        few_clusters = omega (arith, many, same, placed, c.form_clusters-n.ensures.few, m.few);
         units = units-ok m;
       },
       omega (arith, m.spanned.checked.bytes),
-      omega (arith, short, length-take-le n c.place_clusters-placed.new.words words),
+      rw placed short,
     )
 
 pub progress_behind-requires-2 : goal.progress_behind-requires-2
 progress_behind-requires-2 c =
-    let a = c.args in
-    let m = c.requires.0 in
-    let n = c.form_clusters-n.result in
-    let few = c.form_clusters-n.ensures.few in
-    let floats : n ≤ length c.place_clusters-placed.new.floats = omega arith in
-    let words : n ≤ length c.place_clusters-placed.new.words = omega arith in
-    let text = c.text_of-text.ensures ∙ ap (λ (bs : List ℕ). (chunk_of bs).text) c.tail-chunk.ensures in
-    let text-short : length c.text_of-text.result.now ≤ 4096 = rw text (few_bytes m.spanned.checked) in
+    let a = c.args.chunk in
+    let m = a.merged in
+    let text = c.text_of-text.ensures ∙ ap (λ (bs : List ℕ). (chunk_of bs).text) c.tail.ensures in
     let told =
-    c.adjust_lengths-adjusted.ensures
-    ∙ adjusted-is a.merged.now m.spanned text c.form_clusters-n.ensures.clusters c.apply_writing_mode.ensures
-    c.apply_letter_spacing.ensures c.apply_word_spacing.ensures in
-    let many = clusters-length c.adjust_lengths-adjusted.new.floats c.adjust_lengths-adjusted.new.words n (omega arith) (omega arith) in
+    adjusted-whole a.glyphs.now m.spanned text c.form_clusters-n.ensures c.apply_writing_mode.ensures c.apply_letter_spacing.ensures c.apply_word_spacing.ensures
+    _ _ c.adjust_lengths.ensures in
+    let many = worded-length a.glyphs.now m.spanned text c.form_clusters-n.ensures c.apply_writing_mode.ensures c.apply_letter_spacing.ensures c.apply_word_spacing.ensures in
+    let same = c.adjust_lengths.auto.clusters in
     let one =
-    one-row a.merged.now m.spanned _ n many (omega (arith, c.if-n-eq0.false)) c.place_clusters-placed.result _ _ floats words
+    clusters-row a.s.now a.next a.glyphs.now m.spanned c.adjust_lengths.new.clusters _ (omega (arith, many, same, c.if-n-eq0.false)) c.place_clusters-placed.result
     c.place_clusters-placed.ensures c.origin_of-origin.result c.pen_after-pen.result c.origin_of-origin.ensures c.pen_after-pen.ensures in
-    let short = row-short m _ n many (done-given _ _ told c.in-Done.is) _ one in (
+    let short = row-short m _ (done-given _ _ told c.in_ok-adjust_lengths.was) _ one in
+    let text-short : length c.text_of-text.result.now ≤ 4096 = rw text (few_bytes m.spanned.checked) in (
       omega (arith, text-short, m.spanned.checked.offset),
-      omega (arith, c.write_chunk_row-row.ensures.length, short, few, m.few, m.spanned.few, m.spanned.checked.bytes),
+      omega (arith, c.write_chunk_row-row.ensures.length, short, many, same, c.form_clusters-n.ensures.few, m.few, m.spanned.few, m.spanned.checked.bytes),
     )
 
 pub returns : goal.returns
 returns c =
-    let a = c.args in
-    let m = c.requires.0 in
-    let n = c.form_clusters-n.result in
-    let text = c.text_of-text.ensures ∙ ap (λ (bs : List ℕ). (chunk_of bs).text) c.tail-chunk.ensures in
+    let a = c.args.chunk in
+    let m = a.merged in
+    let text = c.text_of-text.ensures ∙ ap (λ (bs : List ℕ). (chunk_of bs).text) c.tail.ensures in
     let told =
-    c.adjust_lengths-adjusted.ensures
-    ∙ adjusted-is a.merged.now m.spanned text c.form_clusters-n.ensures.clusters c.apply_writing_mode.ensures
-    c.apply_letter_spacing.ensures c.apply_word_spacing.ensures in
-    let many = clusters-length c.adjust_lengths-adjusted.new.floats c.adjust_lengths-adjusted.new.words n (omega arith) (omega arith) in
+    adjusted-whole a.glyphs.now m.spanned text c.form_clusters-n.ensures c.apply_writing_mode.ensures c.apply_letter_spacing.ensures c.apply_word_spacing.ensures
+    _ _ c.adjust_lengths.ensures in
+    let many = worded-length a.glyphs.now m.spanned text c.form_clusters-n.ensures c.apply_writing_mode.ensures c.apply_letter_spacing.ensures c.apply_word_spacing.ensures in
+    let same = c.adjust_lengths.auto.clusters in
     let one =
-    one-row a.merged.now m.spanned _ n many (omega (arith, c.if-n-eq0.false)) c.place_clusters-placed.result _ _ (omega arith) (omega arith)
+    clusters-row a.s.now a.next a.glyphs.now m.spanned c.adjust_lengths.new.clusters _ (omega (arith, many, same, c.if-n-eq0.false)) c.place_clusters-placed.result
     c.place_clusters-placed.ensures c.origin_of-origin.result c.pen_after-pen.result c.origin_of-origin.ensures c.pen_after-pen.ensures in
-    one-laid a.s.now a.next a.merged.now one (done-given _ _ told c.in-Done.is) refl text c.write_chunk_row-row.ensures c.progress_behind-2.ensures
+    one-laid a.s.now a.next a.glyphs.now one (done-given _ _ told c.in_ok-adjust_lengths.was) refl text c.write_chunk_row-row.ensures c.progress_behind-2.ensures

@@ -4,11 +4,11 @@ use borrow.Author.Tests.{leb-true}
 use Rattle.clustering.proofs.FewClusters.{clusters-at-most}
 use Rattle.chunk.proofs.tables.long_chunk.Goals as goal
 
-pub chunk_of_256-requires : goal.chunk_of_256-requires
-chunk_of_256-requires c =
-    (leb-true _ 256 (rw (← c.clusters_at_most.ensures) c.if-clusters_at_most.true), c.requires)
+pub chunk_of-requires : goal.chunk_of-requires
+chunk_of-requires c =
+    (omega arith, leb-true _ 256 (rw (← c.clusters_at_most.ensures) c.if-clusters_at_most.true))
 
-pub chunk_of_1024-requires : goal.chunk_of_1024-requires
-chunk_of_1024-requires c =
-    let a = c.args in
-    (omega (arith, clusters-at-most a.s.now a.spans.now a.merged.now, c.requires.few), c.requires)
+pub chunk_of-requires-2 : goal.chunk_of-requires-2
+chunk_of-requires-2 c =
+    let a = c.args.chunk in
+    (omega arith, omega (arith, clusters-at-most a.s.now a.spans.now a.glyphs.now, a.merged.few))

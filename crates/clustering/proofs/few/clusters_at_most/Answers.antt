@@ -1,8 +1,9 @@
 use native.Mathlib.Omega.{arith}
-use mathlib.Core.Path.{ap, sym}
+use mathlib.Core.Path.{refl, ap, sym}
 use lib.ListN.{length}
 use borrow.Author.Tests.{le-leb, lt-leb}
 use Rattle.clustering.specs.Groups.{clusters_in}
+use Rattle.clustering.proofs.Found.{found-some, found-none}
 use Rattle.clustering.proofs.FewClusters.{clusters-at-most}
 use Rattle.clustering.proofs.LoopSteps.{run_at, groups-start, groups-end, groups-passed, groups-room, groups-turn, groups-all}
 use Rattle.clustering.proofs.few.clusters_at_most.Goals as goal
@@ -21,18 +22,22 @@ loop-i-init c =
 pub returns-then-n-most : goal.returns-then-n-most
 returns-then-n-most c =
     let a = c.args in
-    let more = groups-room (run_at c.run_end-end.ensures c.index_in.ensures c.chunk_span_at-k.ensures) c.if-k-spans.true c.loop-i.n c.loop-i.invariant.1 in
+    let l = c.loop-i in
+    let here = found-some _ _ c.chunk_span_at.result c.is_some.ensures c.if-is_some.true c.chunk_span_at.ensures in
+    let more = groups-room a.spans.now (run_at c.run_end-end.ensures c.index_in.ensures) (refl, here) l.n l.invariant.1 in
     sym (lt-leb (clusters_in a.s.now a.spans.now a.merged.now) a.most (omega arith))
 
 pub loop-i-preserved-else-n-most : goal.loop-i-preserved-else-n-most
 loop-i-preserved-else-n-most c =
     let l = c.loop-i in
-    (omega arith, groups-turn (run_at c.run_end-end.ensures c.index_in.ensures c.chunk_span_at-k.ensures) c.if-k-spans.true l.n l.invariant.1)
+    let here = found-some _ _ c.chunk_span_at.result c.is_some.ensures c.if-is_some.true c.chunk_span_at.ensures in
+    (omega arith, groups-turn c.args.spans.now (run_at c.run_end-end.ensures c.index_in.ensures) (refl, here) l.n l.invariant.1)
 
 pub loop-i-preserved : goal.loop-i-preserved
 loop-i-preserved c =
     let l = c.loop-i in
-    (l.invariant.0, rw (groups-passed (run_at c.run_end-end.ensures c.index_in.ensures c.chunk_span_at-k.ensures) c.if-k-spans.false) at l.invariant.1)
+    let none = found-none _ _ c.chunk_span_at.result c.is_some.ensures c.if-is_some.false c.chunk_span_at.ensures in
+    (l.invariant.0, rw (groups-passed c.args.spans.now (run_at c.run_end-end.ensures c.index_in.ensures) none) at l.invariant.1)
 
 pub returns : goal.returns
 returns c =

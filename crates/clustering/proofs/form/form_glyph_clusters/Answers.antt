@@ -16,17 +16,6 @@ measure_at-own-requires c =
     rw (to_z-of_z (record { sfits = c.type_inv.first.1.1.1.1.1.0.1 }), c.requires.3)
     (leb-true _ _ (width-next a.s.now a.merged.now a.end a.from h.some h.inside h.widths))
 
-pub glyph_advances-advances-requires : goal.glyph_advances-advances-requires
-glyph_advances-advances-requires c = (
-  c.requires.0,
-  rw (
-    c.measure_at-own.ensures,
-    to_z-of_z (record { sfits = c.type_inv.first.1.1.1.1.1.0.1 }),
-    ap (λ (m : Measures). m.scale) c.requires.4,
-    c.requires.3,
-  ),
-)
-
 pub returns : goal.returns
 unfolding form_glyph_clusters group_in
 returns c =

@@ -1,14 +1,8 @@
 -- `column_window::block::make_tails` meets its contract. The loop's invariant: from `i` on stand the tails, and `best` is the highest there. Assumes nothing.
-use Prim.Native.Nat.{◌≤◌}
-use mathlib.Core.Path.{◌≡◌}
-use mathlib.Core.List.{◌++◌}
-use lib.ListN.{length, take, drop}
+use Rattle.std.proofs.Common.{◌≡◌, ◌++◌, take, drop}
 use Rattle.column_window.specs.Words.{highest, tails}
 use Rattle.column_window.proofs.block.make_tails.Given as goal
 
 abbrev pub invariant-loop-i : goal.invariant-loop-i
 invariant-loop-i l =
-    (l.i ≤ length l.initial.block) × (length l.block ≡ length l.initial.block) × (l.best ≡ highest (drop l.i l.initial.block)) × (l.block ≡ take l.i l.initial.block ++ tails (drop l.i l.initial.block))
-
-abbrev pub decreases-loop-i : goal.decreases-loop-i
-decreases-loop-i l = l.i
+    (l.best ≡ highest (drop l.i l.initial.block)) × (l.block ≡ take l.i l.initial.block ++ tails (drop l.i l.initial.block))

@@ -1,17 +1,17 @@
 -- `job_rows::numbered::size_in` meets its contract. Assumes nothing.
-use native.Mathlib.Omega.{arith}
+use Rattle.std.proofs.lemmas.List.{get_or-map}
 use Rattle.spec.specs.Job.{blank_span}
 use Rattle.spec.specs.Decode.{span_of}
 use Rattle.job_rows.specs.Rows.{spans_in}
-use Rattle.job_rows.proofs.ByNumber.{map-in, map-past}
+use Rattle.job_rows.proofs.ByNumber.{map-past}
 use Rattle.job_rows.proofs.numbered.size_in.Goals as goal
 
-pub returns-then-places-k : goal.returns-then-places-k
-unfolding spans_in
-returns-then-places-k c = let a = c.args in rw (map-past _ a.places.now a.k blank_span (omega arith))
-
-pub returns : goal.returns
+pub returns-in-Some : goal.returns-in-Some
 unfolding spans_in span_of
-returns c =
-    let a = c.args in
-    rw (c.span_float.ensures, c.tail.ensures, map-in _ a.places.now a.k 0 blank_span (omega arith))
+returns-in-Some c =
+    let found = c.in-Some.ensures.lookup.3 in
+    rw (c.span_float.ensures, c.tail.ensures, get_or-map _ c.args.places.now c.args.k 0 blank_span found.0, ← found.1 0)
+
+pub returns-in-None : goal.returns-in-None
+unfolding spans_in
+returns-in-None c = rw (map-past _ c.args.places.now c.args.k blank_span c.in-None.ensures.lookup.3)

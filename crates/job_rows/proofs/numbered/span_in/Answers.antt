@@ -1,17 +1,16 @@
 -- `job_rows::numbered::span_in` meets its contract. Assumes nothing.
-use native.Mathlib.Omega.{arith}
-use mathlib.Core.Path.{sym}
+use Rattle.std.proofs.lemmas.List.{get_or-map}
 use Rattle.spec.specs.Job.{blank_span}
 use Rattle.job_rows.specs.Rows.{spans_in}
-use Rattle.job_rows.proofs.ByNumber.{map-in, map-past}
+use Rattle.job_rows.proofs.ByNumber.{map-past}
 use Rattle.job_rows.proofs.numbered.span_in.Goals as goal
 
-pub returns-then-k-places : goal.returns-then-k-places
+pub returns-in-Some : goal.returns-in-Some
 unfolding spans_in
-returns-then-k-places c =
-    let a = c.args in
-    rw c.span_at.ensures (sym (map-in _ a.places.now a.k 0 blank_span (omega arith)))
+returns-in-Some c =
+    let found = c.in-Some.ensures.lookup.3 in
+    rw (c.span_at.ensures, get_or-map _ c.args.places.now c.args.k 0 blank_span found.0, ← found.1 0)
 
-pub returns : goal.returns
+pub returns-in-None : goal.returns-in-None
 unfolding spans_in
-returns c = let a = c.args in rw c.blank_span.ensures (sym (map-past _ a.places.now a.k blank_span (omega arith)))
+returns-in-None c = rw (c.blank_span.ensures, map-past _ c.args.places.now c.args.k blank_span c.in-None.ensures.lookup.3)

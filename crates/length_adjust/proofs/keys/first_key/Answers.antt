@@ -1,23 +1,19 @@
-use Prim.Native.Nat.{◌-◌, ◌/◌, ◌+◌}
-use native.Mathlib.Omega.{arith}
+-- `length_adjust::keys::first_key` meets its contract. Assumes nothing.
+use Prim.Native.Nat.{ℕ, ◌/◌}
+use lib.Dec.{ltb}
+use Rattle.std.proofs.Common.{rules}
+use Rattle.std.proofs.lemmas.List.Sorted.{IsPartitionPoint-from_clause}
 use Rattle.sort.proofs.Ascending.{ascends-of-ascending}
-use Rattle.length_adjust.proofs.Passed.{below-past, below-here, below-most}
+use Rattle.length_adjust.proofs.Passed.{parted, below-point}
 use Rattle.length_adjust.proofs.keys.first_key.Goals as goal
 
-pub loop-low-init : goal.loop-low-init
-loop-low-init c = (omega arith, below-most c.args.b c.args.keys.now, omega arith)
-
-pub loop-low-preserved-then-keys-middle : goal.loop-low-preserved-then-keys-middle
-loop-low-preserved-then-keys-middle c =
-    let a = c.args in
-    let l = c.loop-low in
-    let middle = l.low + (l.high - l.low) / 2 in
-    let past = below-past a.b (ascends-of-ascending a.keys.now c.requires) middle (omega arith) c.if-keys-middle.true in
-    (omega (arith, past), l.invariant.1, l.invariant.2)
-
-pub loop-low-preserved : goal.loop-low-preserved
-loop-low-preserved c =
-    let a = c.args in
-    let l = c.loop-low in
-    let middle = l.low + (l.high - l.low) / 2 in
-    (l.invariant.0, below-here a.b a.keys.now middle (omega arith) c.if-keys-middle.false, omega arith)
+pub returns : goal.returns
+returns c =
+    let b = c.args.b in
+    let keys = c.args.keys.now in
+    let up = ascends-of-ascending keys c.requires in
+    let point = c.partition_point in (
+      below-point b up point.result point.ensures.bound
+          (IsPartitionPoint-from_clause (λ (key : ℕ). ltb (key / 65536) b) keys point.result point.ensures.partitioned (parted b up) (λ a r f k. search rules)),
+      point.ensures.bound,
+    )

@@ -2,18 +2,14 @@
 use mathlib.Core.Path.{◌∙◌}
 use lib.ListN.{drop}
 use Rattle.spec.specs.Decode.{parts_of}
-use Rattle.merge.proofs.Spans.{own-few, own-count}
+use Rattle.merge.proofs.Spans.{own-count}
 use Rattle.merge.proofs.chunk.list_span.Goals as goal
 
 pub list_rows-requires : goal.list_rows-requires
 list_rows-requires c =
     let own = c.glyph_rows-own in
     let a = c.args in
-    let parts = parts_of (drop a.at a.s.now) in (
-      rw (own-count a.s.now parts own.result.first own.result.count own.ensures.1) c.requires.2,
-      own-few a.s.now parts own.result.first own.result.count own.ensures.1 c.requires.1,
-      own.ensures.0,
-    )
+    rw (own-count a.s.now (parts_of (drop a.at a.s.now)) own.result.first own.result.count own.ensures) c.requires.2
 
 pub returns : goal.returns
 returns c =
@@ -21,6 +17,6 @@ returns c =
     let own = c.glyph_rows-own in
     let a = c.args in (
       listed.ensures.0,
-      own-count a.s.now (parts_of (drop a.at a.s.now)) own.result.first own.result.count own.ensures.1,
-      listed.ensures.1 a.s.now ∙ own.ensures.1,
+      own-count a.s.now (parts_of (drop a.at a.s.now)) own.result.first own.result.count own.ensures,
+      listed.ensures.1 a.s.now ∙ own.ensures,
     )

@@ -4,7 +4,7 @@ use Rattle.merge.proofs.chunk.merge_many.Goals as goal
 
 pub merge_glyphs-requires : goal.merge_glyphs-requires
 merge_glyphs-requires c =
-    (c.requires.0, c.requires.1, rw c.build_index.ensures (index-known _ _))
+    (c.requires, rw c.build_index.ensures (index-known _ _))
 
 pub returns : goal.returns
 returns c = c.merge_glyphs.ensures

@@ -1,53 +1,48 @@
 -- `merge::chunk::merge_span` meets its contract: the span's own list, or its glyphs merged. Assumes nothing.
-use Prim.Native.Nat.{ℕ, ◌≤◌, ◌<◌}
-use mathlib.Core.Path.{◌≡◌, refl, ◌∙◌}
+use Prim.Native.Nat.{ℕ, ◌<◌}
+use mathlib.Core.Path.{◌≡◌, refl}
 use mathlib.Core.List.{List}
-use lib.ListN.{drop}
+use lib.ListN.{length, drop}
+use Rattle.std.specs.declared.result.Result.{Result}
 use Rattle.spec.specs.Outcome.{given}
+use Rattle.spec.specs.declared.Refusal.{Refusal}
 use Rattle.spec.specs.declared.Span.{Span}
 use Rattle.spec.specs.Bytes.{rows as records}
 use Rattle.spec.specs.Decode.{glyph_bytes, glyph_of, parts_of, span_of}
 use Rattle.spec.specs.Merge.{merge_span}
-use Rattle.merge.specs.declared.Merge.{Merge}
-use Rattle.merge.specs.declared.chunk.GlyphRows.{GlyphRows}
-use Rattle.merge.specs.Merged.{FewGlyphs, glyphs_in, merged_of, merged_into, replaced_places}
-use Rattle.merge.specs.Steps.{stamped, OwnFew, SpanReady, SpanMerged, SpanEnded}
-use Rattle.merge.proofs.Spans.{own-few, own-span, span-first, span_more}
+use Rattle.merge.specs.declared.progress.Marks.{Marks}
+use Rattle.merge.specs.declared.glyph.GlyphRows.{GlyphRows}
+use Rattle.merge.specs.Merged.{glyphs_in, merged_of, merged_into, replaced_places}
+use Rattle.merge.specs.Steps.{stamped, SpanReady, SpanMerged, SpanEnded}
+use Rattle.merge.proofs.Spans.{own-span, span-first, span_more}
 use native.Mathlib.Omega.{arith}
 use Rattle.merge.proofs.chunk.merge_span.Goals as goal
 
--- the span's own glyphs are few
-own-rows : (s : List ℕ) (at : ℕ) (own : GlyphRows) → own.first ≤ 2_000_000
-    → records (λ b. glyph_bytes) glyph_of own.count (drop own.first s) ≡ (parts_of (drop at s)).glyphs
-    → FewGlyphs (parts_of (drop at s)) → OwnFew own
-own-rows s at own inside rows few = record { few = own-few s (parts_of (drop at s)) own.first own.count rows few; inside = inside }
-
 -- the span's merge is that of its glyphs into the list, which is not empty
-merged-span : (s : List ℕ) (at : ℕ) (span : Span) (own : GlyphRows) (rows₀ stamps₀ : List ℕ) (stamp count : ℕ) (r : Merge) (rows stamps : List ℕ)
+merged-span : (s : List ℕ) (at : ℕ) (span : Span) (own : GlyphRows) (rows₀ : List ℕ) (marks₀ : Marks) (count : ℕ) (held : length rows₀ ≡ 1024) (r : Result ℕ Refusal) (rows : List ℕ) (marks : Marks)
     → records (λ b. glyph_bytes) glyph_of own.count (drop own.first s) ≡ (parts_of (drop at s)).glyphs
-    → span ≡ span_of (drop at s) → 0 < count → SpanReady rows₀ stamps₀ stamp count
-    → SpanEnded r s rows stamps₀ stamps stamp (merged_into (glyphs_in s rows₀ count) span s own.first own.count)
+    → span ≡ span_of (drop at s) → 0 < count → SpanReady marks₀ count
+    → SpanEnded r s rows marks₀ marks (merged_into (glyphs_in s rows₀ count) span s own.first own.count)
     → (let parts = parts_of (drop at s) in
     let gs = glyphs_in s rows₀ count in
-    SpanMerged r s rows stamps₀ stamps stamp (replaced_places gs parts) (merge_span (given gs) parts))
-merged-span s at span own rows₀ stamps₀ stamp count r rows stamps whole is some begun ended =
+    SpanMerged r s rows marks₀ marks (replaced_places gs parts) (merge_span (given gs) parts))
+merged-span s at span own rows₀ marks₀ count held r rows marks whole is some begun ended =
     let bs = drop at s in
-    span_more s (parts_of bs) own.first own.count whole rows₀ count some (omega (arith, begun.row_room, begun.few))
-    (SpanMerged r s rows stamps₀ stamps stamp) (rw (← own-span bs, ← is) ended)
+    span_more s (parts_of bs) own.first own.count whole rows₀ count some (omega (arith, held, begun.few))
+    (SpanMerged r s rows marks₀ marks) (rw (← own-span bs, ← is) ended)
 
 pub list_span-requires : goal.list_span-requires
 list_span-requires c =
-    (c.requires.0, c.requires.1, omega (arith, c.requires.1, c.requires.2.row_room))
+    (c.requires.0, c.requires.1, omega (arith, c.requires.1))
 
 pub returns-then-count-eq0 : goal.returns-then-count-eq0
 unfolding merged_of stamped
 returns-then-count-eq0 c =
     let begun = c.requires.2 in
     let a = c.args in
-    span-first a.s.now (parts_of (drop a.at a.s.now)) a.rows.now a.count (omega arith) (SpanMerged _ a.s.now _ a.stamps.now a.stamps.now a.stamp)
+    span-first a.s.now (parts_of (drop a.at a.s.now)) a.rows.now a.count (omega arith) (SpanMerged _ a.s.now _ a.marks.now a.marks.now)
     record {
-      row_room = c.list_span.ensures.0 ∙ begun.row_room;
-      stamp-room = begun.stamp-room;
+      same-span = refl;
       marked = refl;
       held = rw c.list_span.ensures.1 c.requires.1;
       is = rw c.list_span.ensures.2;
@@ -57,22 +52,22 @@ pub merge_glyphs-requires : goal.merge_glyphs-requires
 merge_glyphs-requires c =
     let own = c.glyph_rows-own in
     let a = c.args in
-    (c.requires.2, own-rows a.s.now a.at own.result own.ensures.0 own.ensures.1 c.requires.1, λ b. omega arith)
+    (c.requires.2, λ b. omega arith)
 
 pub returns-then-own-count : goal.returns-then-own-count
 returns-then-own-count c =
     let own = c.glyph_rows-own in
     let a = c.args in
-    merged-span a.s.now a.at c.span_at-span.result own.result a.rows.now a.stamps.now a.stamp a.count _ _ _ own.ensures.1 c.span_at-span.ensures (omega (arith, c.if-count-eq0.false)) c.requires.2 c.merge_glyphs.ensures
+    merged-span a.s.now a.at c.span_at-span.result own.result a.rows.now a.marks.now a.count (omega arith) _ _ _ own.ensures c.span_at-span.ensures (omega (arith, c.if-count-eq0.false)) c.requires.2 c.merge_glyphs.ensures
 
 pub merge_many-requires : goal.merge_many-requires
 merge_many-requires c =
     let own = c.glyph_rows-own in
     let a = c.args in
-    (c.requires.2, own-rows a.s.now a.at own.result own.ensures.0 own.ensures.1 c.requires.1)
+    c.requires.2
 
 pub returns : goal.returns
 returns c =
     let own = c.glyph_rows-own in
     let a = c.args in
-    merged-span a.s.now a.at c.span_at-span.result own.result a.rows.now a.stamps.now a.stamp a.count _ _ _ own.ensures.1 c.span_at-span.ensures (omega (arith, c.if-count-eq0.false)) c.requires.2 c.merge_many.ensures
+    merged-span a.s.now a.at c.span_at-span.result own.result a.rows.now a.marks.now a.count (omega arith) _ _ _ own.ensures c.span_at-span.ensures (omega (arith, c.if-count-eq0.false)) c.requires.2 c.merge_many.ensures

@@ -1,7 +1,9 @@
-use Prim.Native.Nat.{ℕ}
-use lib.ListN.{length-replicate}
+use mathlib.Core.Path.{◌≡◌, refl, ◌∙◌}
+use borrow.Author.Rules.{rules}
+use Rattle.std.specs.Prelude.{Err}
 use Rattle.spec.specs.Outcome.{given}
 use Rattle.spec.specs.Merge.{merge_glyphs}
+use Rattle.spec.specs.Refusal.{refusal_number}
 use Rattle.job_rows.specs.Rows.{parts_in}
 use Rattle.merge.specs.Merged.{glyphs_in, merged_of}
 use Rattle.merge.proofs.Stamps.{below-clear, ended-below}
@@ -9,50 +11,48 @@ use Rattle.merge.proofs.Spans.{spans-start, spans_on, spans-stop, spans-done, fe
 use native.Mathlib.Omega.{arith}
 use Rattle.merge.proofs.chunk.process_chunk.Goals as goal
 
-pub loop-i-init : goal.loop-i-init
-loop-i-init c =
+pub loop-at-init : goal.loop-at-init
+loop-at-init c =
     let a = c.args in
-    (c.requires.room, length-replicate {A = ℕ} 1024 0, below-clear 1024, omega arith, omega arith, c.requires.own, spans-start a.s.now a.rows.now (parts_in a.s.now a.spans.now))
+    (refl, below-clear 1024, omega arith, c.requires.own, spans-start a.s.now a.rows.now (parts_in a.s.now a.spans.now))
 
 pub merge_span-requires : goal.merge_span-requires
 merge_span-requires c =
     let a = c.args in
-    let l = c.loop-i in
-    (c.requires.size, few-here a.s.now a.spans.now l.i (omega arith) l.invariant.5, record { row_room = l.invariant.0; stamp-room = l.invariant.1; earlier = l.invariant.2; few = l.invariant.3 })
+    let l = c.loop-at in
+    (c.requires.size, few-here a.s.now a.spans.now l.at-index (omega arith) l.invariant.3, record { earlier = l.invariant.1; few = l.invariant.2 })
 
-pub returns-in-Refused : goal.returns-in-Refused
+pub returns-in_err-count : goal.returns-in_err-count
 unfolding merged_of
-returns-in-Refused c =
-    let did = c.merge_span in
+returns-in_err-count c =
     let a = c.args in
-    let l = c.loop-i in
-    let s = a.s.now in (
-      did.ensures.row_room,
-      rw c.in-Refused.is at did.ensures.held,
-      spans-stop s a.spans.now l.i (given (glyphs_in s l.rows l.count)) (merge_glyphs (parts_in s a.spans.now)) l.invariant.6 c.in-Refused.k (omega arith)
-          (rw c.in-Refused.is at did.ensures.is),
+    let l = c.loop-at in
+    let s = a.s.now in
+    let same : c.from_residual.result ≡ Err c.in_err-count.field-0.0 = search rules in
+    rw same (
+      tt,
+      spans-stop s a.spans.now l.at-index (given (glyphs_in s l.rows l.count)) (merge_glyphs (parts_in s a.spans.now)) l.invariant.4
+          (refusal_number c.in_err-count.field-0.0) (omega arith) (rw c.in_err-count.was at c.merge_span.ensures.is),
     )
 
-pub loop-i-preserved : goal.loop-i-preserved
+pub loop-at-preserved : goal.loop-at-preserved
 unfolding merged_of
-loop-i-preserved c =
+loop-at-preserved c =
     let did = c.merge_span in
     let a = c.args in
-    let l = c.loop-i in
+    let l = c.loop-at in
     let s = a.s.now in (
-      did.ensures.row_room,
-      did.ensures.stamp-room,
-      ended-below did.ensures c.in-Merged.is l.invariant.2,
-      rw c.in-Merged.is at did.ensures.held,
-      omega arith,
-      few_on s a.spans.now l.i (omega arith) l.invariant.5,
-      spans_on s a.spans.now l.i (given (glyphs_in s l.rows l.count)) (merge_glyphs (parts_in s a.spans.now)) l.invariant.6 _ (omega arith) (rw c.in-Merged.is at did.ensures.is),
+      did.ensures.same-span ∙ omega (arith, l.invariant.0),
+      ended-below did.ensures c.in_ok-count.was l.invariant.1,
+      rw c.in_ok-count.was at did.ensures.held,
+      few_on s a.spans.now l.at-index (omega arith) l.invariant.3,
+      spans_on s a.spans.now l.at-index (given (glyphs_in s l.rows l.count)) (merge_glyphs (parts_in s a.spans.now)) l.invariant.4 _ (omega arith) (rw c.in_ok-count.was at did.ensures.is),
     )
 
 pub returns : goal.returns
 unfolding merged_of
 returns c =
     let a = c.args in
-    let l = c.loop-i in
+    let l = c.loop-at in
     let s = a.s.now in
-    (l.invariant.0, l.invariant.3, spans-done s a.spans.now l.i (given (glyphs_in s l.rows l.count)) (merge_glyphs (parts_in s a.spans.now)) l.invariant.6 (omega arith))
+    (l.invariant.2, spans-done s a.spans.now l.at-index (given (glyphs_in s l.rows l.count)) (merge_glyphs (parts_in s a.spans.now)) l.invariant.4 (omega arith))

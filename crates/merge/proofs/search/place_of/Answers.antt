@@ -1,27 +1,28 @@
+-- `merge::search::place_of` meets its contract. Assumes nothing.
+use Rattle.std.proofs.Common.{rules, drop, take, ℕ, ◌-◌}
 use native.Mathlib.Omega.{arith}
-use mathlib.Core.Path.{sym, ◌∙◌}
-use Rattle.merge.proofs.Found.{place-from, place_here, place-on, place_end}
+use borrow.Author.Tests.{tests}
+use lib.Dec.{eqb}
+use Rattle.std.proofs.lemmas.Iterator.{YieldsList-from_slice}
+use Rattle.std.proofs.lemmas.Iterator.Search.{position_from_yields_List}
+use Rattle.spec.specs.Decode.{glyph_of}
+use Rattle.merge.proofs.Found.{from-le, place-found}
 use Rattle.merge.proofs.search.place_of.Goals as goal
 
-pub loop-i-init : goal.loop-i-init
-loop-i-init c =
-    let a = c.args in
-    place-from a.s.now a.rows.now a.count a.index a.from c.requires.1
+pub offset_bounds-rows-from : goal.offset_bounds-rows-from
+offset_bounds-rows-from c = let a = c.args in let held = from-le a.s.now a.rows.now a.count a.index a.from c.requires.0 c.requires.1 in omega arith
 
-pub returns-then-index_at-index : goal.returns-then-index_at-index
-returns-then-index_at-index c =
-    let a = c.args in
-    let l = c.loop-i in
-    sym (place_here a.s.now a.rows.now a.count a.index l.i (omega arith) (omega arith) (sym c.index_at.ensures ∙ c.if-index_at-index.true)) ∙ l.invariant
+pub slice_bounds-rest-count : goal.slice_bounds-rest-count
+slice_bounds-rest-count c = let a = c.args in let held = from-le a.s.now a.rows.now a.count a.index a.from c.requires.0 c.requires.1 in omega arith
 
-pub loop-i-preserved : goal.loop-i-preserved
-loop-i-preserved c =
-    let a = c.args in
-    let l = c.loop-i in
-    place-on a.s.now a.rows.now a.count a.index l.i (omega arith) (omega arith) (λ e. c.if-index_at-index.false (c.index_at.ensures ∙ e)) ∙ l.invariant
+pub slice_bounds-rest-start : goal.slice_bounds-rest-start
+slice_bounds-rest-start c = let a = c.args in let held = from-le a.s.now a.rows.now a.count a.index a.from c.requires.0 c.requires.1 in omega arith
 
 pub returns : goal.returns
 returns c =
     let a = c.args in
-    let l = c.loop-i in
-    sym (place_end a.s.now a.rows.now a.count a.index l.i (omega arith)) ∙ l.invariant
+    let held = from-le a.s.now a.rows.now a.count a.index a.from c.requires.0 c.requires.1 in
+    place-found a.s.now a.rows.now a.count a.index a.from held c.requires.1
+    (position_from_yields_List (λ (at : ℕ). eqb (glyph_of (drop at a.s.now)).index a.index) _ _ _ c.position.ensures.ran (YieldsList-from_slice (take (a.count - a.from) (drop a.from a.rows.now)) cc)
+    (λ x b q k. search (rules, tests)))
+    c.unwrap_or.ensures

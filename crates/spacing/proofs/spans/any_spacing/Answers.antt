@@ -1,35 +1,20 @@
-use mathlib.Core.Path.{refl, ◌∙◌}
-use native.Mathlib.Omega.{arith}
+-- `spacing::spans::any_spacing` meets its contract. Assumes nothing.
+use Rattle.std.proofs.Common.{rules, not, drop, ℕ}
+use borrow.Author.Tests.{tests}
+use Rattle.std.proofs.lemmas.Iterator.{YieldsList-from_slice}
+use Rattle.std.proofs.lemmas.Iterator.Search.{any_from_yields_List}
 use lib.Ieee.{ne}
-use Rattle.spec.proofs.Loops.{any_here, any-on, any_none}
+use Rattle.spec.specs.Single.{is_zero}
+use Rattle.spec.specs.Decode.{span_of}
+use Rattle.spec.specs.declared.Span.{Span}
 use Rattle.job_rows.specs.Rows.{spans_in}
-use Rattle.spacing.proofs.Tests.{any-map}
-use Rattle.spacing.proofs.spans.any_spacing.Invariants.{spaced}
+use Rattle.spacing.specs.Spans.{spacing_of}
+use Rattle.spacing.proofs.Tests.{any-found}
 use Rattle.spacing.proofs.spans.any_spacing.Goals as goal
 
-pub loop-i-init : goal.loop-i-init
-loop-i-init c = (omega arith, refl)
-
-pub returns-then-spacing_at : goal.returns-then-spacing_at
-unfolding spans_in ne
-returns-then-spacing_at c =
-    let a = c.args in
-    let l = c.loop-i in
-    let p = spaced a.s.now a.spacing in
-    let here = any_here p a.spans.now l.i 0 (omega arith) (rw c.spacing_at.ensures at c.if-spacing_at.true) in
-    rw (any-map, ← l.invariant.1, here)
-
-pub loop-i-preserved : goal.loop-i-preserved
-unfolding ne
-loop-i-preserved c =
-    let a = c.args in
-    let l = c.loop-i in
-    let p = spaced a.s.now a.spacing in
-    (omega arith, any-on p a.spans.now l.i 0 (omega arith) (rw c.spacing_at.ensures at c.if-spacing_at.false) ∙ l.invariant.1)
-
 pub returns : goal.returns
-unfolding spans_in
+unfolding spans_in ne
 returns c =
     let a = c.args in
-    let l = c.loop-i in
-    rw (any-map, ← l.invariant.1, any_none (spaced a.s.now a.spacing) a.spans.now l.i (omega arith))
+    any-found (λ (p : Span). not (is_zero (spacing_of a.spacing p))) (λ (at : ℕ). span_of (drop at a.s.now)) a.spans.now
+    (any_from_yields_List _ _ _ _ c.any.ensures.ran (YieldsList-from_slice a.spans.now cc) (λ x b q k. search (rules, tests)))

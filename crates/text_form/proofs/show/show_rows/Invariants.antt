@@ -1,13 +1,9 @@
--- `text_form::show::show_rows` meets its contract. Assumes nothing.
-use Prim.Native.Nat.{◌≤◌, ◌-◌}
-use mathlib.Core.Path.{◌≡◌}
-use lib.ListN.{drop}
-use Rattle.text_form.specs.Walk.{row_size_of, behind}
+-- `text_form::show::show_rows` meets its contract. The loop's invariant: what stands behind the rows that are left stays the same.
+-- Assumes nothing.
+use Rattle.std.proofs.Common.{◌≡◌, ◌-◌, drop}
+use Rattle.text_form.specs.Walk.{behind}
 use Rattle.text_form.proofs.show.show_rows.Given as goal
 
 abbrev pub invariant-loop-i : goal.invariant-loop-i
-invariant-loop-i l =
-    (l.i ≤ l.count) × (behind (row_size_of l.kind) (l.count - l.i) (drop l.at l.chunk) ≡ behind (row_size_of l.kind) l.count (drop l.initial.at l.chunk))
-
-abbrev pub decreases-loop-i : goal.decreases-loop-i
-decreases-loop-i l = l.count - l.i
+invariant-loop-i g l =
+    behind g.R.Rows.size_of (l.count - l.i) (drop l.at l.bytes) ≡ behind g.R.Rows.size_of l.count (drop l.first l.bytes)

@@ -1,31 +1,24 @@
-use mathlib.Core.Path.{◌≡◌, refl, sym}
+use mathlib.Core.Path.{refl, sym}
+use native.Mathlib.Omega.{arith}
 use Rattle.spec.specs.Bytes.{be}
 use Rattle.wire.proofs.Digits.{be-step, below_step, below-width}
-use native.Mathlib.Omega.{arith}
 use Rattle.wire.proofs.read.number_of.Goals as goal
 
-pub loop-i-init : goal.loop-i-init
+pub loop-byte-init : goal.loop-byte-init
 unfolding be
-loop-i-init c = (omega arith, refl, omega arith)
+loop-byte-init c = (refl, omega arith)
 
 pub overflow_mul-n : goal.overflow_mul-n
-overflow_mul-n c = let l = c.loop-i in omega (arith, below-width l.n l.i 7 l.invariant.2 (omega arith))
+overflow_mul-n c = let l = c.loop-byte in omega (arith, below-width l.n l.byte-index 7 l.invariant.1 (omega arith))
 
 pub overflow_add-n : goal.overflow_add-n
-overflow_add-n c = let l = c.loop-i in omega (arith, below-width l.n l.i 7 l.invariant.2 (omega arith))
+overflow_add-n c =
+    let l = c.loop-byte in
+    omega (arith, c.type_inv.bytes l.byte-index, below-width l.n l.byte-index 7 l.invariant.1 (omega arith))
 
-pub loop-i-preserved : goal.loop-i-preserved
-loop-i-preserved c =
-    let l = c.loop-i in
-    let row = c.args.row.now in (
-      omega arith,
-      (rw (c.wide.ensures.0, l.invariant.1) (sym (be-step row l.i))),
-      below_step l.n c.wide.result l.i l.invariant.2 (omega arith),
+pub loop-byte-preserved : goal.loop-byte-preserved
+loop-byte-preserved c =
+    let l = c.loop-byte in (
+      (rw (c.from.ensures, l.invariant.0) (sym (be-step c.args.bytes.now l.byte-index))),
+      below_step l.n c.from.result l.byte-index l.invariant.1 (omega (arith, c.type_inv.bytes l.byte-index)),
     )
-
-pub returns : goal.returns
-returns c =
-    let a = c.args in
-    let l = c.loop-i in
-    let e : l.i ≡ a.width = omega arith in
-    (rw e at l.invariant.1, rw e at l.invariant.2)

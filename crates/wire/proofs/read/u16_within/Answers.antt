@@ -1,5 +1,0 @@
--- `wire::read::u16_within` meets its contract. Assumes nothing.
-use Rattle.wire.proofs.read.u16_within.Goals as goal
-
-pub returns : goal.returns
-returns c = c.number_within.ensures.0

@@ -1,5 +1,0 @@
--- `wire::write::put_u8` meets its contract. Assumes nothing.
-use Rattle.wire.proofs.write.put_u8.Goals as goal
-
-pub returns : goal.returns
-returns c = c.put_number.ensures
