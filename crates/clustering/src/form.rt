@@ -73,7 +73,7 @@ fn glyph_advances(
 }
 
 // The cluster of the glyphs from place `from` to `end`. The first of them is given, and the measures of its font and of the span that covers
-// them.
+// them. The record, its fonts and the merged list go by parameters and no struct: each function of this crate takes another part of them.
 pub fn form_glyph_clusters(
     s: &[u8],
     fonts: usize,

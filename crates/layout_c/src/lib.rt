@@ -9,6 +9,7 @@ ghost use Rattle.layout.specs.Called.{LayoutPromise};
 
 use spec::Refusal;
 
+// A number beside a length, and no Result: C takes it.
 #[repr(C)]
 #[derive(Clone, Copy)]
 pub struct LayoutResult {

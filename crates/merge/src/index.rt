@@ -49,7 +49,7 @@ fn lower_bucket(buckets: &mut [u16], index: u16, place: u16)
     }
 }
 
-// The table, whose entries are lent, and its slack.
+// The table, whose entries are lent, and its slack. Entries are places in the merged list, and no references: memory is fixed, and rows move.
 #[derive(Drop)]
 pub struct FirstPlaces<'a> {
     pub buckets: &'a mut [u16],

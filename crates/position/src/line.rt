@@ -70,7 +70,7 @@ pub fn positioned(anchor: u8, order: &[u32], clusters: &mut [Cluster]) -> Positi
     positioned_between(anchor, first, last, clusters)
 }
 
-// Of a chunk that has clusters.
+// Of a chunk that has clusters. The record, the job and the lists go by parameters and no struct: each step below takes another part of them.
 pub fn resolve_clusters_positions_horizontal(
     s: &[u8],
     job: Job,

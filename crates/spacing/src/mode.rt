@@ -21,6 +21,7 @@ pub fn vertical_metrics(c: Cluster) -> Cluster
     Cluster { nudge, ..c }
 }
 
+// `mode` stays a number: the definition speaks of the job's.
 #[tactic(auto, unfolding(spec::specs::WritingMode::apply_writing_mode))]
 pub fn apply_writing_mode(mode: u8, clusters: &mut [Cluster])
     ensures { clusters.new ≡ apply_writing_mode mode clusters.old }

@@ -11,6 +11,7 @@ ghost use Rattle.spacing.specs.Spans.{spacing_of};
 use job_rows::rows::span_float;
 use job_rows::sizes::{SPAN_LETTER_AT, SPAN_WORD_AT};
 
+// Which of the two. An enum and no closure: one function reads either float of a row, and the definition tells them apart by these names.
 #[derive(Clone, Copy)]
 pub enum Spacing {
     Letter,
