@@ -92,9 +92,9 @@ fn refuse_unless(passes: bool, refusal: Refusal) -> Result<(), Refusal>
 pub fn check(bytes: &[u8]) -> Result<Job, Refusal>
     ensures { outcome_of result ≡ verdict_of bytes.now }
 {
-    let parts = JobParts::of(bytes);
     refuse_unless(length_ok(bytes), Refusal::BadLength)?;
     refuse_unless(version_ok(bytes), Refusal::BadVersion)?;
+    let parts = JobParts::of(bytes);
     refuse_unless(parts.is_shaped(), Refusal::BadCount)?;
     refuse_unless(parts.values_ok(), Refusal::BadField)?;
     refuse_unless(parts.texts_ok(), Refusal::BadText)?;

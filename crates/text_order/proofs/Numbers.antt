@@ -1,11 +1,10 @@
 -- Characters counted along the text order. Assumes nothing.
-use Prim.Native.Nat.{ℕ, ◌+◌, ◌≤◌, ◌<◌}
+use Prim.Native.Nat.{ℕ, zero, suc, ◌+◌, ◌≤◌, ◌<◌}
 use mathlib.Core.Path.{◌≡◌, refl, sym, ap, ◌∙◌}
-use mathlib.Core.Bool.{Bool, true, false, cond, not}
+use mathlib.Core.Bool.{Bool, true, false, cond}
 use mathlib.Core.List.{List, [], ◌∷◌, ◌++◌}
+use native.Mathlib.Numerals.{add-one}
 use native.Mathlib.Omega.{arith}
-use Rattle.std.specs.List.{count_by}
-use Rattle.std.proofs.lemmas.List.Sums.{sum_by-cons}
 use lib.ListN.{length, get_or, take, drop, length-take, take-append-drop}
 use lib.Seq.{take-take}
 use Rattle.spec.specs.Utf8.{continues, characters, code_point_at}
@@ -31,15 +30,15 @@ unfolding characters
 characters-few [] = omega arith
 characters-few (x ∷ a) = omega (arith, characters-few a, bit-small (continues x))
 
-one-more : (b : Bool) {n m : ℕ} → n ≡ m → cond (not b) 1 0 + n ≡ cond b 0 1 + m
-one-more true e = ap (λ k. 0 + k) e
-one-more false e = ap (λ k. 1 + k) e
-
--- the characters are the bytes that continue none
-pub characters-starts : (a : List ℕ) → count_by (λ (b : ℕ). not (continues b)) a ≡ characters a
+-- one byte more is counted
+counted-next : (bs : List ℕ) (i : ℕ) → i < length bs → characters (take (suc i) bs) ≡ characters (take i bs) + cond (continues (get_or bs i 0)) 0 1
 unfolding characters
-characters-starts [] = refl
-characters-starts (x ∷ a) = sum_by-cons _ x a ∙ one-more (continues x) (characters-starts a)
+counted-next [] i h = absurd (omega arith)
+counted-next (b ∷ bs) zero h = omega arith
+counted-next (b ∷ bs) (suc i) h = omega (arith, counted-next bs i (omega arith))
+
+pub counted-turn : (bs : List ℕ) (i : ℕ) → i < length bs → characters (take (i + 1) bs) ≡ characters (take i bs) + cond (continues (get_or bs i 0)) 0 1
+counted-turn bs i h = rw add-one (counted-next bs i h)
 
 pub none_before : (text : List ℕ) → code_point_at text 0 ≡ 0
 unfolding code_point_at characters

@@ -1,7 +1,7 @@
 // The text order of the clusters, and the number of each cluster's character.
 #![tactic(auto)]
 
-ghost use Rattle.std.specs.Prelude.{◌≡◌, not, map, ◌+◌, ◌%◌, ◌≤◌, ◌<◌, length, take, drop};
+ghost use Rattle.std.specs.Prelude.{◌≡◌, cond, map, ◌+◌, ◌%◌, ◌≤◌, ◌<◌, length, take, drop};
 ghost use Rattle.spec.specs.Utf8.{continues, characters};
 ghost use Rattle.spec.specs.Position.{logical_order, character_number};
 ghost use Rattle.spec.specs.Arithmetic.{indexes};
@@ -39,11 +39,12 @@ pub fn logical_order(clusters: &[Cluster], order: &mut [u32])
     sort(&mut order[..clusters.len()]);
 }
 
-// A character starts with the byte: it continues none. One line here and in `field_checks`, neither of which rests on the other.
-fn starts(b: u8) -> bool
-    ensures { result ≡ not (continues b) }
+// How many characters start with a byte: one that continues a character starts none. One line here and in `field_checks`, neither of which rests on
+// the other.
+fn starts(b: u8) -> usize
+    ensures { (result ≡ cond (continues b) 0 1) × (result ≤ 1) }
 {
-    !(0x80..=0xbf).contains(&b)
+    usize::from(!(0x80..=0xbf).contains(&b))
 }
 
 // How many characters start in the bytes from `at` to `end`.
@@ -51,7 +52,12 @@ fn characters_between(text: &[u8], at: usize, end: usize) -> usize
     ensures { result ≡ characters (drop at (take end text.now)) }
 {
     let part = tail(window(text, 0, end), at);
-    part.iter().filter(|b| starts(**b)).count()
+    // No `filter`: a sum asks no branch for each byte.
+    let mut count = 0;
+    for b in part {
+        count += starts(*b);
+    }
+    count
 }
 
 // How many characters a text has.

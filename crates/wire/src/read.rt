@@ -35,12 +35,15 @@ pub fn pad(out: &mut [u8], row: &[u8])
     }
 }
 
-// The number that the `width` bytes at `at` hold, with 0 for each that is missing.
+// The number that the `width` bytes at `at` hold, with 0 for each that is missing; 0 at once where all are.
 #[cold]
 fn number_padded(s: &[u8], at: usize, width: usize) -> u64
     requires { width ≤ 8 }
     ensures { (result ≡ be width (drop at s.now)) × (result < 256 ^ width) }
 {
+    if s.len() <= at {
+        return 0;
+    }
     let mut bytes = [0; 8];
     pad(&mut bytes, tail(s, at));
     number_of(&bytes[..width])

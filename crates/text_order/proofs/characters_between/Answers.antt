@@ -1,11 +1,24 @@
-use mathlib.Core.Path.{◌≡◌, refl, ◌∙◌}
-use Rattle.std.proofs.Common.{ℕ, not, count_by, rules}
-use Rattle.spec.specs.Utf8.{continues}
-use Rattle.text_order.proofs.Numbers.{characters-starts}
+-- `text_order::characters_between` meets its contract. Assumes nothing.
+use mathlib.Core.Path.{refl, sym, ◌∙◌, ap₂}
+use native.Mathlib.Omega.{arith}
+use Prim.Native.Nat.{ℕ, ◌+◌}
+use lib.ListN.{take, length-take}
+use Rattle.spec.specs.Utf8.{characters}
+use Rattle.text_order.proofs.Numbers.{characters-few, counted-turn}
 use Rattle.text_order.proofs.characters_between.Goals as goal
 
-pub returns : goal.returns
-returns c =
-    let part = c.tail-part in
-    let counted : c.count.result ≡ count_by (λ (b : ℕ). not (continues b)) part.result.now = search rules in
-    counted ∙ characters-starts part.result.now ∙ rw (part.ensures, c.window.ensures) refl
+pub loop-b-init : goal.loop-b-init
+unfolding characters
+loop-b-init c = refl
+
+pub overflow_add-count : goal.overflow_add-count
+overflow_add-count c =
+    let l = c.loop-b in
+    let part = c.tail-part.result.now in
+    omega (arith, l.invariant, characters-few (take l.b-index part), length-take l.b-index part, c.starts-count.ensures.1)
+
+pub loop-b-preserved : goal.loop-b-preserved
+loop-b-preserved c =
+    let l = c.loop-b in
+    let part = c.tail-part.result.now in
+    ap₂ (λ (n k : ℕ). n + k) l.invariant c.starts-count.ensures.0 ∙ sym (counted-turn part l.b-index (omega arith))

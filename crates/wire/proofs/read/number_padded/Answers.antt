@@ -2,9 +2,12 @@
 use mathlib.Core.Path.{refl, ap, ◌∙◌}
 use native.Mathlib.Omega.{arith}
 use Rattle.spec.specs.Bytes.{be}
-use Rattle.wire.proofs.Digits.{first_bytes}
+use Rattle.wire.proofs.Digits.{first_bytes, be-past, none_below}
 use Rattle.wire.proofs.Padded.{be-padded}
 use Rattle.wire.proofs.read.number_padded.Goals as goal
+
+pub returns-then-s-at : goal.returns-then-s-at
+returns-then-s-at c = (be-past c.args.width c.args.at c.args.s.now (omega arith), none_below c.args.width)
 
 pub returns : goal.returns
 returns c =
