@@ -43,16 +43,24 @@ fn units_negated(z: i32) -> f32
     (0 - z) as f32
 }
 
-// The row of a glyph before which the widths add up to `x`; the result is what they add up to with this glyph's.
-fn put_glyph(out: &mut [u8], at: usize, glyph: Glyph, x: f32) -> f32
-    requires { (at + glyph_row_size ≤ length out.old) × (units_of glyph ≡ true) }
-    ensures { (out.new ≡ splice out.old at (glyph_row_bytes (glyph_row x glyph)))
-        × (result ≡ x +ᶠ of_int binary32 glyph.width) }
+// The row of a glyph before which the widths add up to `x`.
+pub fn put_glyph(out: &mut [u8], at: usize, glyph: Glyph, x: f32)
+    requires { (at + glyph_row_size ≤ length out.old) × (units_ok glyph.dx ≡ true) × (units_ok glyph.dy ≡ true) }
+    ensures { out.new ≡ splice out.old at (glyph_row_bytes (glyph_row x glyph)) }
 {
     put_u32(out, at, glyph.id);
     put_u8(out, at + GLYPH_FONT_AT, glyph.font);
     put_f32(out, at + GLYPH_X_AT, x + units(glyph.dx));
     put_f32(out, at + GLYPH_Y_AT, units_negated(glyph.dy));
+}
+
+// As `put_glyph`; the result is what the widths add up to with this glyph's.
+fn put_next(out: &mut [u8], at: usize, glyph: Glyph, x: f32) -> f32
+    requires { (at + glyph_row_size ≤ length out.old) × (units_of glyph ≡ true) }
+    ensures { (out.new ≡ splice out.old at (glyph_row_bytes (glyph_row x glyph)))
+        × (result ≡ x +ᶠ of_int binary32 glyph.width) }
+{
+    put_glyph(out, at, glyph, x);
     x + units(glyph.width)
 }
 
@@ -68,7 +76,7 @@ fn put_glyph_at(out: &mut [u8], at: usize, s: &[u8], place: usize, x: f32) -> f3
     } else {
         glyph_at(s, place)
     };
-    put_glyph(out, at, glyph, x)
+    put_next(out, at, glyph, x)
 }
 
 // The rows of the glyphs at `places` in the record `s`; the result is the place behind them.

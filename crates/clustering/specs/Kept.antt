@@ -19,3 +19,7 @@ measures_in s fonts spans k b = measures_at (font_at (fonts_in s fonts) b) (span
 -- the measures that are kept, if any are, are those of their own span and font
 abbrev pub Kept : List ℕ → ℕ → List ℕ → Option Measures → Type 0
 Kept s fonts spans kept = IfSome kept (λ (m : Measures). m ≡ measures_in s fonts spans m.span m.font)
+
+-- what is kept serves span k and the font of byte b: if it is of these, it is theirs
+abbrev pub Serves : List ℕ → ℕ → List ℕ → ℕ → ℕ → Option Measures → Type 0
+Serves s fonts spans k b kept = IfSome kept (λ (m : Measures). m.span ≡ k → m.font ≡ b → m ≡ measures_in s fonts spans k b)

@@ -1,6 +1,6 @@
 // What a cluster has of its span and of its first glyph's font. Neighbours nearly always have both in common, so that it is kept.
 ghost use Rattle.std.specs.Prelude.{◌≡◌};
-ghost use Rattle.clustering.specs.Kept.{measures_in, Kept};
+ghost use Rattle.clustering.specs.Kept.{measures_in, Serves};
 
 use font_metrics::{ascent, descent, scale};
 use job_rows::numbered::{font_in, size_in};
@@ -41,7 +41,7 @@ pub fn next_measures(
     b: u8,
     last: Option<Measures>,
 ) -> Measures
-    requires { Kept s.now fonts spans.now last }
+    requires { Serves s.now fonts spans.now k b last }
     ensures { result ≡ measures_in s.now fonts spans.now k b }
 {
     if let Some(m) = last {

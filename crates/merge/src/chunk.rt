@@ -47,7 +47,7 @@ fn merge_glyphs(
     for k in 0..own.count {
         let row = own.row(k);
         let next = merge_glyph(s, span, rows, marks, &table, at, row)?;
-        table.follow_step(at, next, index_at(s, row));
+        table.follow_step(at.count, next.count, index_at(s, row), at.next);
         table.renew(s, rows, next.count);
         at = next;
     }

@@ -7,7 +7,6 @@ ghost use Rattle.merge.specs.Merged.{glyphs_in};
 ghost use Rattle.merge.specs.Buckets.{bucket_of, buckets_of, lowered, seen, table_after, renewed};
 
 use crate::glyph::index_at;
-use crate::progress::Progress;
 
 // How many neighbouring byte indexes share an entry.
 pub const BUCKET: usize = 32;
@@ -67,17 +66,17 @@ impl FirstPlaces<'_> {
         }
     }
 
-    // The table after a step from `at` to `next`. A glyph that was inserted, of byte index `index`, may be the first of its byte index. No
-    // other place is earlier for it, but each entry may be one further from its place.
-    pub fn follow_step(&mut self, at: Progress, next: Progress, index: u16)
-        requires { self.old.slack ≤ 1024 }
-        ensures { seen self.new ≡ table_after at.count next.count index at.next (seen self.old) }
+    // The table after a step that took the list from `before` to `count` glyphs. A glyph that was inserted, of byte index `index` at `place`, may be
+    // the first of its byte index. No other place is earlier for it, but each entry may be one further from its place.
+    pub fn follow_step(&mut self, before: usize, count: usize, index: u16, place: usize)
+        requires { (before ≤ 1024) × (place ≤ 1024) × (self.old.slack ≤ 1024) }
+        ensures { seen self.new ≡ table_after before count index place (seen self.old) }
     {
-        if at.count < next.count {
-            lower_bucket(self.buckets, index, at.next as u16);
+        if before < count {
+            lower_bucket(self.buckets, index, place as u16);
             self.slack += 1;
         } else {
-            let removed = at.count - next.count;
+            let removed = before - count;
             self.slack += removed;
         }
     }

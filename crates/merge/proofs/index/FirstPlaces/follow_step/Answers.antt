@@ -4,10 +4,10 @@ use borrow.Author.Tests.{lt-ltb, le-ltb}
 use Rattle.merge.specs.Buckets.{table_after}
 use Rattle.merge.proofs.index.FirstPlaces.follow_step.Goals as goal
 
-pub returns-then-at-next : goal.returns-then-at-next
+pub returns-then-before-count : goal.returns-then-before-count
 unfolding table_after
-returns-then-at-next c = rw (lt-ltb c.args.at.count c.args.next.count (omega arith), c.lower_bucket.ensures)
+returns-then-before-count c = rw (lt-ltb c.args.before c.args.count (omega arith), c.lower_bucket.ensures)
 
-pub returns-else-at-next : goal.returns-else-at-next
+pub returns-else-before-count : goal.returns-else-before-count
 unfolding table_after
-returns-else-at-next c = rw (le-ltb c.args.at.count c.args.next.count (omega arith))
+returns-else-before-count c = rw (le-ltb c.args.before c.args.count (omega arith))
