@@ -55,5 +55,5 @@ fn show_case(rt: &impl Print, file: &[u8]) {
 
 fn main(rt: HostRuntime) -> std::io::Result<()> {
     let mut file = [0; ROOM];
-    named_files::show_each(&rt, &mut file, |file| show_case(&rt, file))
+    named_files::show_each(&rt, "", &mut file, |file| show_case(&rt, file))
 }

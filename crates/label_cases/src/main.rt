@@ -3,13 +3,7 @@
 
 use text_form::{JOB_ROOM, show_job};
 
-// A write that fails is passed over.
-fn show_file(rt: &impl Print, job: &[u8]) {
-    let _ = println!(rt);
-    show_job(rt, job);
-}
-
 fn main(rt: HostRuntime) -> std::io::Result<()> {
     let mut job = [0; JOB_ROOM];
-    named_files::show_each(&rt, &mut job, |job| show_file(&rt, job))
+    named_files::show_each(&rt, "\n", &mut job, |job| show_job(&rt, job))
 }

@@ -7,11 +7,12 @@ use std::fs::File;
 use std::io::Read;
 use std::{env, io};
 
-// Opens the file at `path` and prints that name. Where it cannot be opened, says so and answers none. A write that fails is passed over.
-fn open_argument(rt: &HostRuntime, path: &str) -> Option<File> {
+// Opens the file at `path` and prints that name, with `behind` behind it. Where it cannot be opened, says so and answers none. A write that fails is
+// passed over.
+fn open_argument(rt: &HostRuntime, path: &str, behind: &str) -> Option<File> {
     match File::open(rt, path) {
         Ok(file) => {
-            let _ = print!(rt; "{path}");
+            let _ = print!(rt; "{path}{behind}");
             Some(file)
         }
         Err(error) => {
@@ -37,12 +38,18 @@ pub fn read_full(input: &mut impl Read, buf: &mut [u8]) -> usize
     done
 }
 
-// Prints the name of each file that an argument names, and hands `show` as many of its first bytes as `buf` has room for.
-pub fn show_each<F: Fn(&[u8])>(rt: &HostRuntime, buf: &mut [u8], show: F) -> io::Result<()>
+// Prints the name of each file that an argument names, with `behind` behind it, before the file is read; then hands `show` as many of its first bytes
+// as `buf` has room for.
+pub fn show_each<F: Fn(&[u8])>(
+    rt: &HostRuntime,
+    behind: &str,
+    buf: &mut [u8],
+    show: F,
+) -> io::Result<()>
     requires { F.IsAlwaysCallable show }
 {
     for path in env::args(rt)?.skip(1) {
-        if let Some(mut file) = open_argument(rt, path.as_str()) {
+        if let Some(mut file) = open_argument(rt, path.as_str(), behind) {
             let n = read_full(&mut file, buf);
             show(&buf[..n]);
         }

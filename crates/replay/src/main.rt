@@ -50,5 +50,5 @@ fn replay_records(rt: &impl Print, file: &[u8]) {
 
 fn main(rt: HostRuntime) -> std::io::Result<()> {
     let mut file = [0; FILE_ROOM];
-    named_files::show_each(&rt, &mut file, |file| replay_records(&rt, file))
+    named_files::show_each(&rt, "", &mut file, |file| replay_records(&rt, file))
 }
