@@ -58,6 +58,20 @@ expects-next n low high b bytes =
     let less : suc n - 1 ≡ n = omega arith in
     rw (next-expected (suc n) low high b (omega arith), less) (taken (within low high b) (Expecting n 0x80 0xbf) bytes)
 
+-- the next of a text, of which it is asked whether it is right
+module _ (n low high : ℕ) (text : List ℕ) (i j : ℕ) (r : Bool)
+    (some : 0 < n) (h : i < length text) (q : j ≡ i + 1) (e : r ≡ within low high (get_or text i 0)) where
+  asked-next : utf8_after n low high (drop i text) ≡ (r && utf8_after (n - 1) 0x80 0xbf (drop j text))
+  unfolding utf8_after
+  asked-next =
+      rw (q, e, ← fold-turn next (Expecting n low high) text i 0 h, next-expected n low high (get_or text i 0) some, taken) refl
+
+  pub expects-right : r ≡ true → utf8_after n low high (drop i text) ≡ utf8_after (n - 1) 0x80 0xbf (drop j text)
+  expects-right t = asked-next ∙ rw t refl
+
+  pub expects-wrong : r ≡ false → utf8_after n low high (drop i text) ≡ false
+  expects-wrong t = asked-next ∙ rw t refl
+
 -- these bytes, and then the rest
 expects-these : (bytes rest : List ℕ) → utf8_after (length bytes) 0x80 0xbf (bytes ++ rest) ≡ (list_all (within 0x80 0xbf) bytes && is_utf8 rest)
 expects-these [] rest = ends-here 0x80 0xbf rest

@@ -20,6 +20,12 @@ pub marked-index : (angle : Float) (before c : Cluster) → (marked_by angle bef
 unfolding marked_by
 marked-index angle before c = refl
 
+-- a cluster that is marked by its character's angle is marked as the definition has it
+module _ (angle : Float) (before c : Cluster) where
+  pub marked_by_lem : (job : Job) (text : List ℕ) (offset : ℕ) → get_or job.rotate (character_number text offset c.index) +0 ≡ angle → marked_by angle before c ≡ marked job text offset before c
+  unfolding marked
+  marked_by_lem job text offset e = rw e
+
 -- the state is the cluster before
 abbrev pub last : Cluster → Cluster → Cluster
 last before c = c
