@@ -51,7 +51,8 @@ pub fn layout_chunks(checked: Checked, out: &mut [u8]) -> Result<Progress, Refus
     let mut at = job.chunks + CHUNK_COUNT_BYTES;
     for _ in 0..count_of(checked) {
         before = layout_chunk(s, NextChunk { job, at, before }, out)?;
-        at = offset_after(s, at, chunk_size(tail(s, at)));
+        let size = chunk_size(tail(s, at));
+        at = offset_after(s, at, size);
     }
     Ok(before)
 }

@@ -27,7 +27,7 @@ pub loop-preserved : goal.loop-preserved
 loop-preserved c =
     let l = c.loop in
     let laid = c.layout_chunk in
-    let k = c.chunk_size in
+    let k = c.chunk_size-size in
     let size_is = k.ensures.0 ∙ ap chunk_size c.tail.ensures in
     let less : c.count_of-end.result - (l.counter + 1) ≡ c.count_of-end.result - l.counter - 1 = omega arith in
     rw less
