@@ -64,6 +64,16 @@ fn put_next(out: &mut [u8], at: usize, glyph: Glyph, x: f32) -> f32
     x + units(glyph.width)
 }
 
+// As `put_next`, of a glyph whose row is cut short. A function of its own, so that the fields of a whole row go straight from row to row.
+#[cold]
+fn put_padded(out: &mut [u8], at: usize, glyph: Glyph, x: f32) -> f32
+    requires { (at + glyph_row_size ≤ length out.old) × (units_of glyph ≡ true) }
+    ensures { (out.new ≡ splice out.old at (glyph_row_bytes (glyph_row x glyph)))
+        × (result ≡ x +ᶠ of_int binary32 glyph.width) }
+{
+    put_next(out, at, glyph, x)
+}
+
 // The glyph at `place` in the record `s`. A row that is whole, as nearly every one is, is read in place.
 fn put_glyph_at(out: &mut [u8], at: usize, s: &[u8], place: usize, x: f32) -> f32
     requires { (at + glyph_row_size ≤ length out.old) × (units_of (glyph_of (drop place s.now)) ≡ true) }
@@ -71,12 +81,10 @@ fn put_glyph_at(out: &mut [u8], at: usize, s: &[u8], place: usize, x: f32) -> f3
         × (result ≡ x +ᶠ of_int binary32 (glyph_of (drop place s.now)).width) }
 {
     let row = tail(s, place);
-    let glyph = if GLYPH_BYTES <= row.len() {
-        glyph_of(row)
-    } else {
-        glyph_at(s, place)
-    };
-    put_next(out, at, glyph, x)
+    if row.len() < GLYPH_BYTES {
+        return put_padded(out, at, glyph_at(s, place), x);
+    }
+    put_next(out, at, glyph_of(row), x)
 }
 
 // The rows of the glyphs at `places` in the record `s`; the result is the place behind them.

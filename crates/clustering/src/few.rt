@@ -17,8 +17,9 @@ pub fn clusters_at_most(s: &[u8], spans: &[usize], merged: &[u32], most: usize) 
     let mut i: usize = 0;
     // Not `chunk_by`, as in `form_clusters`.
     while i < merged.len() {
+        let index = index_in(s, merged, i);
         let end = run_end(s, merged, i);
-        if chunk_span_at(s, spans, index_in(s, merged, i) as usize).is_some() {
+        if chunk_span_at(s, spans, index as usize).is_some() {
             if n == most {
                 return false;
             }

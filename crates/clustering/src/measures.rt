@@ -16,8 +16,9 @@ pub struct Measures {
     pub descent: f32,
 }
 
-// Of the span of place `k` and the font of byte `b`.
-fn measures_of(s: &[u8], fonts: usize, spans: &[usize], k: usize, b: u8) -> Measures
+// Of the span of place `k` and the font of byte `b`. Inlined: what a call returns stands in memory, and each cluster would copy it.
+#[inline(always)]
+pub fn measures_of(s: &[u8], fonts: usize, spans: &[usize], k: usize, b: u8) -> Measures
     ensures { result ≡ measures_in s.now fonts spans.now k b }
 {
     let size = size_in(s, spans, k);

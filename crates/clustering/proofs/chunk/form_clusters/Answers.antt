@@ -20,13 +20,13 @@ loop-i-init c =
     let a = c.args in
     let form = form_glyph_clusters (fonts_in a.s.now a.fonts) (spans_in a.s.now a.spans.now) in
     let all_left = groups-start a.s.now a.spans.now a.merged.now in
-    (refl, omega arith, omega arith, omega (arith, ap length all_left), ap (map form) all_left, refl, tt)
+    (refl, omega arith, omega arith, omega (arith, ap length all_left), ap (map form) all_left, refl, kept a.s.now a.fonts a.spans.now c.measures_of-kept.ensures)
 
 pub form_glyph_clusters-requires : goal.form_glyph_clusters-requires
 form_glyph_clusters-requires c =
     let run = c.run_end-end.ensures in
     let a = c.args in
-    let m = c.next_measures-m.ensures in
+    let m = c.next_measures-kept.ensures in
     let here = MatchOption-at_some _ _ _ c.in-Some.is c.chunk_span_at.ensures in
     let given = c.requires in (
       record { some = run.1; inside = run.2; widths = widths-part a.s.now a.merged.now _ c.loop-i.i given.widths },
@@ -40,17 +40,17 @@ pub bounds-clusters-n : goal.bounds-clusters-n
 bounds-clusters-n c =
     let l = c.loop-i in
     let here = MatchOption-at_some _ _ _ c.in-Some.is c.chunk_span_at.ensures in
-    let more = groups-room c.args.spans.now (run_at c.run_end-end.ensures c.index_in.ensures) here l.n l.invariant.3 in
+    let more = groups-room c.args.spans.now (run_at c.run_end-end.ensures c.index_in-index.ensures) here l.n l.invariant.3 in
     omega (arith, c.requires.rows)
 
 pub loop-i-preserved-in-Some : goal.loop-i-preserved-in-Some
 loop-i-preserved-in-Some c =
     let a = c.args in
     let l = c.loop-i in
-    let run = run_at c.run_end-end.ensures c.index_in.ensures in
+    let run = run_at c.run_end-end.ensures c.index_in-index.ensures in
     let here = MatchOption-at_some _ _ _ c.in-Some.is c.chunk_span_at.ensures in
     let r = c.form_glyph_clusters in
-    let m = c.next_measures-m.ensures in
+    let m = c.next_measures-kept.ensures in
     let room = groups-room a.spans.now run here l.n l.invariant.3 in
     let h : l.n < length l.clusters = omega (arith, c.requires.rows) in
     let form = form_glyph_clusters (fonts_in a.s.now a.fonts) (spans_in a.s.now a.spans.now) in
@@ -68,7 +68,7 @@ pub loop-i-preserved : goal.loop-i-preserved
 loop-i-preserved c =
     let l = c.loop-i in
     let run = c.run_end-end.ensures in
-    let next = groups-passed c.args.spans.now (run_at run c.index_in.ensures) (MatchOption-at_none _ _ c.in_default.is c.chunk_span_at.ensures) in
+    let next = groups-passed c.args.spans.now (run_at run c.index_in-index.ensures) (MatchOption-at_none _ _ c.in_default.is c.chunk_span_at.ensures) in
     (l.invariant.0, omega arith, run.2, rw next at l.invariant.3, rw next at l.invariant.4, l.invariant.5, l.invariant.6)
 
 pub returns : goal.returns

@@ -5,6 +5,7 @@ use mathlib.Core.Bool.{true}
 use mathlib.Core.List.{map}
 use lib.ListN.{length, take}
 use lib.Dec.{ltb}
+use Rattle.std.specs.Prelude.{Some}
 use Rattle.spec.specs.Lists.{all}
 use Rattle.spec.specs.Group.{groups}
 use Rattle.spec.specs.Arithmetic.{indexes}
@@ -20,7 +21,7 @@ invariant-loop-i l =
     (length l.clusters ≡ length l.initial.clusters) × (l.n ≤ l.i) × (l.i ≤ length l.merged) × Counted l.s l.spans l.merged l.n l.i
     × (formed form l.clusters l.n (groups_from l.s l.spans l.merged l.i) ≡ map form (groups (spans_in l.s l.spans) (glyphs_at l.s l.merged)))
     × (all (λ (i : ℕ). ltb i 65536) (indexes rounded (take l.n l.clusters)) ≡ true)
-    × Kept l.s l.fonts l.spans l.kept
+    × Kept l.s l.fonts l.spans (Some l.kept)
 
 abbrev pub decreases-loop-i : goal.decreases-loop-i
 decreases-loop-i l = length l.merged - l.i

@@ -24,20 +24,20 @@ returns-then-n-most c =
     let a = c.args in
     let l = c.loop-i in
     let here = found-some _ _ c.chunk_span_at.result c.is_some.ensures c.if-is_some.true c.chunk_span_at.ensures in
-    let more = groups-room a.spans.now (run_at c.run_end-end.ensures c.index_in.ensures) (refl, here) l.n l.invariant.1 in
+    let more = groups-room a.spans.now (run_at c.run_end-end.ensures c.index_in-index.ensures) (refl, here) l.n l.invariant.1 in
     sym (lt-leb (clusters_in a.s.now a.spans.now a.merged.now) a.most (omega arith))
 
 pub loop-i-preserved-else-n-most : goal.loop-i-preserved-else-n-most
 loop-i-preserved-else-n-most c =
     let l = c.loop-i in
     let here = found-some _ _ c.chunk_span_at.result c.is_some.ensures c.if-is_some.true c.chunk_span_at.ensures in
-    (omega arith, groups-turn c.args.spans.now (run_at c.run_end-end.ensures c.index_in.ensures) (refl, here) l.n l.invariant.1)
+    (omega arith, groups-turn c.args.spans.now (run_at c.run_end-end.ensures c.index_in-index.ensures) (refl, here) l.n l.invariant.1)
 
 pub loop-i-preserved : goal.loop-i-preserved
 loop-i-preserved c =
     let l = c.loop-i in
     let none = found-none _ _ c.chunk_span_at.result c.is_some.ensures c.if-is_some.false c.chunk_span_at.ensures in
-    (l.invariant.0, rw (groups-passed c.args.spans.now (run_at c.run_end-end.ensures c.index_in.ensures) none) at l.invariant.1)
+    (l.invariant.0, rw (groups-passed c.args.spans.now (run_at c.run_end-end.ensures c.index_in-index.ensures) none) at l.invariant.1)
 
 pub returns : goal.returns
 returns c =
