@@ -63,6 +63,7 @@ KINDS = {
     "merged-64": one(64, [glyphs(64)] * 3),
     "merged-lines-64": job(chunks=[line(64, [glyphs(64)] * 3, lengths=True)] * 4),
     "merged-256": one(256, [glyphs(256)] * 3),
+    "one-span-512": one(512, [glyphs(512)]),
     "one-span-1024": one(1024, [glyphs(1024)]),
     "merged-1024": one(1024, [glyphs(1024)] * 2),
     "merged-lines-1024": deepest(),
